@@ -1,0 +1,16 @@
+pub mod Every
+pub mod Xors
+pub mod OnCodes
+pub mod Powers
+pub mod Products
+pub mod BinaryLaws
+pub mod PrimeLaws
+pub mod Codes
+pub mod Ring
+pub mod Linear
+pub mod Unique
+pub mod Loops
+pub mod Tests
+pub mod Parts
+pub mod Steps
+pub mod Inverted

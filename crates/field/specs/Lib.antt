@@ -1,0 +1,6 @@
+pub mod Arithmetic
+pub mod Binary
+pub mod Prime
+pub mod Sums
+pub mod Systems
+pub mod Elimination

@@ -1,0 +1,10 @@
+pub mod Range
+pub mod Tested
+pub mod Bounds
+pub mod Facts
+pub mod Gcd
+pub mod Small
+pub mod Within
+pub mod Cells
+pub mod OfPlan
+pub mod Packing

@@ -1,0 +1,9 @@
+pub mod Placing
+pub mod Placement
+pub mod Promises
+pub mod Sizes
+pub mod Refusals
+pub mod Counts
+pub mod Places
+pub mod Labels
+pub mod Exported

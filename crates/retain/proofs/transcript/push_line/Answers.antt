@@ -1,0 +1,4 @@
+use Rattle.retain.proofs.transcript.push_line.Needs as need
+
+pub returns : need.returns
+returns c = ?

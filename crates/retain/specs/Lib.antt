@@ -1,0 +1,5 @@
+pub mod Words
+pub mod Script
+pub mod Texts
+pub mod Answers
+pub mod Transcripts
