@@ -112,6 +112,7 @@ module _ (A : Arithmetic) (L : Lawful A) (n : ℕ) (ks xs : List ℕ) (posed : P
     inverted =
         record {
           size = high;
+          wide = λ j h. columns j h .size;
           codes = λ j i.
               each (λ x. x < A .order) j i (zero-below A L)
               (λ hj hi.

@@ -46,6 +46,7 @@ pub record Solution (A : Arithmetic) (n : ℕ) (ks xs b u : List ℕ) : Type 0 w
 -- w gives the one solution for every right sides b: unknown j is the sum over i of w j i times b i; what is past n is zero
 pub record Inverse (A : Arithmetic) (n : ℕ) (ks xs : List ℕ) (w : List (List ℕ)) : Type 0 where
   pub size : length w ≡ 4
+  pub wide : (j : ℕ) → j < 4 → length (getD w j []) ≡ 4
   pub codes : (j i : ℕ) → at w j i < A .order
   pub solves : (b u : List ℕ) → Codes A n b → Codes A n u →
       ((j : ℕ) → j < n → getD u j 0 ≡ total A n (λ i. A .mul (at w j i) (getD b i 0))) → Solves A n (cauchy A ks xs) b u

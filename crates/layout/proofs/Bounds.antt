@@ -61,10 +61,6 @@ reach-t : T (table (λ a b. leb (spreadOf a b * b) 28))
 unfolding every-definition every
 reach-t = tt
 
-spread-t : T (table (λ a b. leb (spreadOf a b) 8))
-unfolding every-definition every
-spread-t = tt
-
 pub gcd-pos : {d d′ : ℕ} → Sized d d′ → 0 < gcdOf d d′
 gcd-pos {d} {d′} z = ltb→lt 0 (gcdOf d d′) (of (λ a b. ltb 0 (gcdOf a b)) gcd-t z)
 
@@ -113,6 +109,3 @@ behind-pos {d} {d′} z h =
 
 pub reach-le : {d d′ : ℕ} → Sized d d′ → spreadOf d d′ * d′ ≤ 28
 reach-le {d} {d′} z = leb→le _ 28 (of (λ a b. leb (spreadOf a b * b) 28) reach-t z)
-
-pub spread-le : {d d′ : ℕ} → Sized d d′ → spreadOf d d′ ≤ 8
-spread-le {d} {d′} z = leb→le _ 8 (of (λ a b. leb (spreadOf a b) 8) spread-t z)

@@ -1,5 +1,5 @@
 -- The facts of the placing, from the tests. Assumes nothing.
-use mathlib.Core.Path.{_≡_, refl, sym, ap, _∙_, subst}
+use mathlib.Core.Path.{_≡_, sym, ap, _∙_, subst}
 use mathlib.Core.Bool.{Bool, true, false, cond}
 use mathlib.Core.Logic.{_⊎_, inl, inr}
 use Prim.Native.Nat.{ℕ, _+_, _-_, _*_, _/_, _%_, _<_, _≤_}
@@ -15,7 +15,7 @@ use Rattle.layout.specs.Sizes.{Sized}
 use Rattle.layout.proofs.Bounds.{of, by-stripe, by-row}
 use Rattle.layout.proofs.Range.{both, both-left, both-right, every, below, implied, either, notb}
 use Rattle.layout.proofs.Tested as tested
-use Rattle.layout.proofs.Tested.{stands, filled, coefficient, apart, homely, common}
+use Rattle.layout.proofs.Tested.{stands, filled, coefficient, apart, home-right, common}
 
 -- the test a ≡ b holds
 same : (a b : ℕ) → a ≡ b → T (eqb a b)
@@ -80,14 +80,14 @@ module _ (d d′ : ℕ) (z : Sized d d′) where
       (of (λ a b. every (λ s. every (λ e. every (λ f. apart a b s e f) 0 a) 0 a) 0 (stripesOf a b)) tested.apart-pass z) s hs) e he) f hf)
       (same _ _ p))
 
-  homely-is : (s : ℕ) → s < stripesOf d d′ → (homeOf d d′ s < rowsOf d d′) × (d ≤ d′ → homeOf d d′ s ≡ rowAt d d′ (s * d))
-  unfolding homely
-  homely-is s h =
+  home-right-is : (s : ℕ) → s < stripesOf d d′ → (homeOf d d′ s < rowsOf d d′) × (d ≤ d′ → homeOf d d′ s ≡ rowAt d d′ (s * d))
+  unfolding home-right
+  home-right-is s h =
       let a : Bool = ltb (homeOf d d′ s) (rowsOf d d′) in
       let e : Bool = eqb (homeOf d d′ s) (rowAt d d′ (s * d)) in
       let b : Bool = either (notb (leb d d′)) e in
       let t : T (both a b) =
-      below (λ s. homely d d′ s) (stripesOf d d′) (of (λ a b. every (λ s. homely a b s) 0 (stripesOf a b)) tested.homely-pass z) s h in
+      below (λ s. home-right d d′ s) (stripesOf d d′) (of (λ a b. every (λ s. home-right a b s) 0 (stripesOf a b)) tested.home-right-pass z) s h in
       (ltb→lt _ _ (both-left a b t), λ w. eqb→eq _ _ (implied (leb d d′) e (both-right a b t) (le→leb d d′ w)))
 
   greatest-is : (k : ℕ) → d % k ≡ 0 → d′ % k ≡ 0 → k ≤ gcdOf d d′
@@ -144,7 +144,7 @@ module _ (d d′ : ℕ) (z : Sized d d′) where
     filled = λ i c hi hc. filled-is i c hi hc .0;
     filled-row = λ i c hi hc. filled-is i c hi hc .1;
     filled-column = λ i c hi hc. filled-is i c hi hc .2;
-    home-in = λ s h. homely-is s h .0;
+    home-in = λ s h. home-right-is s h .0;
     x-below = λ j h. coefficient-is j h .0;
     stripe-apart = stripe-apart-is;
     row-apart = row-apart-is;
@@ -160,7 +160,7 @@ module _ (d d′ : ℕ) (z : Sized d d′) where
     promises = promised;
     divides = divides-is;
     greatest = greatest-is;
-    home-wide = λ w s h. homely-is s h .1 w;
+    home-wide = λ w s h. home-right-is s h .1 w;
     home-narrow = λ w s h. home-narrow-is w s;
     outside-wide = λ w. outside-is ∙ cond-true (leb d d′) _ _ (le-leb d d′ w);
     outside-narrow = λ w. outside-is ∙ cond-false (leb d d′) _ _ (lt-leb d d′ w);

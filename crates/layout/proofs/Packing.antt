@@ -45,11 +45,10 @@ module _ (l : List ℕ) (len : length l ≡ 16) (fit : (k : ℕ) → getD l k 0 
   unfolding listed
   reads m first last after judged =
       let has = judged .1 in
-      let same : listed ≡ 1 ∷ m .plan .order ∷ m .plan .d ∷ m .plan .r ∷ m .plan .d2 ∷ m .plan .r2 ∷ m .plan .len ∷ flag (m .after) ∷ [] = cc in
-      (
+      let same : listed ≡ 1 ∷ m .plan .order ∷ m .plan .d ∷ m .plan .r ∷ m .plan .d2 ∷ m .plan .r2 ∷ m .plan .len ∷ flag (m .after) ∷ [] = cc in (
         cond-false _ _ _
-        (or-from _ _ (not-from-true _ (eq-eqb _ _ len))
-        (or-from _ _ (not-from-true _ (eq-eqb _ _ first)) (le-ltb 1 (number l 7) last))) ∙ judged .0,
+            (or-from _ _ (not-from-true _ (eq-eqb _ _ len))
+            (or-from _ _ (not-from-true _ (eq-eqb _ _ first)) (le-ltb 1 (number l 7) last))) ∙ judged .0,
         numbers ∙ ap packed same,
       )
 

@@ -1,6 +1,6 @@
 -- The tests, one for each fact of the placing, that are computed at every pair of 2..14. Assumes nothing.
-use mathlib.Core.Bool.{Bool, not, cond}
-use Prim.Native.Nat.{ℕ, _+_, _-_, _*_, _/_, _%_}
+use mathlib.Core.Bool.{Bool, cond}
+use Prim.Native.Nat.{ℕ, _+_, _-_, _*_, _%_}
 use lib.Dec.{T, leb, ltb, eqb}
 use Rattle.layout.specs.Placing.{every-definition, gcdOf, chunksOf, stripesOf, rowsOf, betaOf, rowAt, columnAt, coeffAt, chunkAt, homeOf, spreadOf}
 use Rattle.layout.specs.Placement.{placement}
@@ -23,8 +23,8 @@ coefficient d d′ j = both (ltb (coeffAt d d′ j) (spreadOf d d′ * d′)) (e
 unfoldable pub apart : ℕ → ℕ → ℕ → ℕ → ℕ → Bool
 apart d d′ s e f = either (notb (eqb (coeffAt d d′ (s * d + e)) (coeffAt d d′ (s * d + f)))) (eqb e f)
 
-unfoldable pub homely : ℕ → ℕ → ℕ → Bool
-homely d d′ s = both (ltb (homeOf d d′ s) (rowsOf d d′)) (either (notb (leb d d′)) (eqb (homeOf d d′ s) (rowAt d d′ (s * d))))
+unfoldable pub home-right : ℕ → ℕ → ℕ → Bool
+home-right d d′ s = both (ltb (homeOf d d′ s) (rowsOf d d′)) (either (notb (leb d d′)) (eqb (homeOf d d′ s) (rowAt d d′ (s * d))))
 
 unfoldable pub common : ℕ → ℕ → ℕ → Bool
 common d d′ k = either (notb (both (eqb (d % k) 0) (eqb (d′ % k) 0))) (leb k (gcdOf d d′))
@@ -45,9 +45,9 @@ pub apart-pass : T (table (λ d d′. every (λ s. every (λ e. every (λ f. apa
 unfolding every-definition apart every
 apart-pass = tt
 
-pub homely-pass : T (table (λ d d′. every (λ s. homely d d′ s) 0 (stripesOf d d′)))
-unfolding every-definition homely every
-homely-pass = tt
+pub home-right-pass : T (table (λ d d′. every (λ s. home-right d d′ s) 0 (stripesOf d d′)))
+unfolding every-definition home-right every
+home-right-pass = tt
 
 pub few-pass : T (table (λ d d′. every (λ s. every (λ c. leb (inColumn (placement d d′) s c) (spreadOf d d′)) 0 d′) 0 (stripesOf d d′)))
 unfolding every-definition every counted inColumn

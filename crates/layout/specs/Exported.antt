@@ -1,6 +1,5 @@
 -- The numbers that the calls from C answer. Assumes nothing.
 use mathlib.Core.Bool.{cond}
-use mathlib.Core.List.{List}
 use Prim.Native.Nat.{ℕ, _+_, _*_}
 use lib.Dec.{ltb}
 use Rattle.std.specs.declared.option.Option.{Option}

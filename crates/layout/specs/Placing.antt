@@ -1,8 +1,8 @@
 -- Where each chunk of a plan lies, from its two sizes alone: d chunks in a stripe before the changeover, d′ in a row after it.
 -- Assumes nothing.
-use mathlib.Core.Bool.{Bool, true, false, not, cond}
+use mathlib.Core.Bool.{cond}
 use Prim.Native.Nat.{ℕ, zero, suc, _+_, _-_, _*_, _/_, _%_}
-use lib.Dec.{leb, ltb, eqb}
+use lib.Dec.{leb, ltb}
 
 -- the greatest common divisor, by Euclid's steps, at most k of them
 unfoldable pub gcdSteps : ℕ → ℕ → ℕ → ℕ

@@ -21,7 +21,11 @@ pub struct Label {
 fn not_a_label() -> Refusal
     ensures { λ r. ⌜ r ≡ not-a-label ⌝ }
 {
-    Refusal { number: 15, layer: Layer::Layout, place: 0 }
+    Refusal {
+        number: 15,
+        layer: Layer::Layout,
+        place: 0,
+    }
 }
 
 impl Label {
@@ -44,7 +48,10 @@ impl Label {
             number_at(bytes, 5),
             number_at(bytes, 6),
         )?;
-        Ok(Label { plan, after: flag == 1 })
+        Ok(Label {
+            plan,
+            after: flag == 1,
+        })
     }
 
     /// Writes the label into a buffer of 16 bytes.
@@ -59,16 +66,30 @@ impl Label {
         Ok(())
     }
 
+    // Fills a buffer of 16 bytes with the label.
     fn put(&self, bytes: &mut [u8])
         requires { ⌜ length (now bytes) ≡ 16 ⌝ }
         ensures { λ _. ⌜ now (bytes .exit) ≡ labelOf (now (self .entry)) ⌝ }
     {
         let plan = self.plan;
         let after = flag_number(self.after);
-        put_numbers(bytes, &[1, plan.order, plan.d, plan.r, plan.d2, plan.r2, plan.len, after]);
+        put_numbers(
+            bytes,
+            &[
+                1,
+                plan.order,
+                plan.d,
+                plan.r,
+                plan.d2,
+                plan.r2,
+                plan.len,
+                after,
+            ],
+        );
     }
 }
 
+// 1 where the pool is after its changeover, else 0.
 fn flag_number(after: bool) -> u16
     ensures { λ r. ⌜ r ≡ flag after ⌝ }
 {

@@ -17,7 +17,11 @@ use crate::refusal::Refusal;
 fn out_of_range(place: u16) -> Refusal
     ensures { λ r. ⌜ r ≡ out-of-range place ⌝ }
 {
-    Refusal { number: 2, layer: Layer::Layout, place }
+    Refusal {
+        number: 2,
+        layer: Layer::Layout,
+        place,
+    }
 }
 
 impl Plan {
@@ -42,12 +46,27 @@ impl Plan {
         }
         let b = numbers::spread(d, d2);
         if r < b {
-            return Err(Refusal { number: 3, layer: Layer::Layout, place: 0 });
+            return Err(Refusal {
+                number: 3,
+                layer: Layer::Layout,
+                place: 0,
+            });
         }
         if order < 4 + b * d2 {
-            return Err(Refusal { number: 4, layer: Layer::Layout, place: 0 });
+            return Err(Refusal {
+                number: 4,
+                layer: Layer::Layout,
+                place: 0,
+            });
         }
-        Ok(Plan { order, d, r, d2, r2, len })
+        Ok(Plan {
+            order,
+            d,
+            r,
+            d2,
+            r2,
+            len,
+        })
     }
 
     /// l, the data chunks.
@@ -124,7 +143,10 @@ impl Plan {
         ensures { λ r. ⌜ Chunk-place (now (self .entry) .d) (now (self .entry) .d2) chunk r ⌝ }
     {
         let cell = self.cell(chunk)?;
-        Some(Place { module: cell.column, slot: cell.row })
+        Some(Place {
+            module: cell.column,
+            slot: cell.row,
+        })
     }
 
     /// The module and slot of a parity of a stripe.
@@ -134,7 +156,10 @@ impl Plan {
         if stripe >= self.stripes() || parity >= self.r {
             return None;
         }
-        Some(Place { module: self.d2 + parity, slot: stripe })
+        Some(Place {
+            module: self.d2 + parity,
+            slot: stripe,
+        })
     }
 
     /// The module and slot of a parity of a row.
@@ -144,7 +169,10 @@ impl Plan {
         if row >= self.rows() || parity >= self.r2 {
             return None;
         }
-        Some(Place { module: self.d2 + parity, slot: self.stripes() + row })
+        Some(Place {
+            module: self.d2 + parity,
+            slot: self.stripes() + row,
+        })
     }
 
     /// What a changeover reads in all: data chunks, and parity chunks.

@@ -36,3 +36,9 @@ each-none f s = sym (append-nil s)
 
 pub each-all : (f : ℕ → List ℕ) (i n : ℕ) (s t : List ℕ) → i ≡ n → t ≡ s ++ each i f → t ≡ s ++ each n f
 each-all f i n s t e p = p ∙ ap (λ m. s ++ each m f) e
+
+pub then : {A : Type 0} (s t u a : List A) → t ≡ s → u ≡ t ++ a → u ≡ s ++ a
+then s t u a p q = q ∙ ap (λ l. l ++ a) p
+
+pub four : {A : Type 0} (s t u v w a b c d : List A) → t ≡ s ++ a → u ≡ t ++ b → v ≡ u ++ c → w ≡ v ++ d → w ≡ s ++ (a ++ (b ++ (c ++ d)))
+four s t u v w a b c d p q r x = two s t w a (b ++ (c ++ d)) p (two t u w b (c ++ d) q (two u v w c d r x))

@@ -1,3 +1,6 @@
 pub mod Splits
 pub mod Numerals
 pub mod Joins
+pub mod Labels
+pub mod Lines
+pub mod Plans

@@ -41,7 +41,7 @@ sizesText p =
 
 -- a new line with row i: its chunks by rising column
 abbrev pub rowText : layout-plan.Plan → ℕ → List ℕ
-rowText p i = 10 ∷ codes "row " ++ (decimal i ++ (codes ":" ++ each (p .d2) (λ c. 32 ∷ decimal (chunkAt (p .d) (p .d2) i c))))
+rowText p i = (10 ∷ codes "row " ++ (decimal i ++ codes ":")) ++ each (p .d2) (λ c. 32 ∷ decimal (chunkAt (p .d) (p .d2) i c))
 
 -- a new line with the home row of each stripe
 abbrev pub homesText : layout-plan.Plan → List ℕ
@@ -55,7 +55,7 @@ countsText p =
     ++ (codes " parities" ++ (10 ∷ codes "re-encoding: " ++ (decimal (chunksOf (p .d) (p .d2)) ++ codes " data"))))))
 
 abbrev pub mapText : layout-plan.Plan → List ℕ
-mapText p = sizesText p ++ (each (rowsOf (p .d) (p .d2)) (rowText p) ++ (homesText p ++ countsText p))
+mapText p = sizesText p ++ each (rowsOf (p .d) (p .d2)) (rowText p) ++ homesText p ++ countsText p
 
 -- the answer that a plan gives, or that there is none yet
 abbrev pub asked : Option layout-plan.Plan → (layout-plan.Plan → List ℕ) → List ℕ

@@ -24,9 +24,12 @@ abbrev pub passedOver : List ℕ → Bool
 passedOver [] = true
 passedOver (c ∷ cs) = eqb c 35
 
+-- a line is printed with its answer, and then what the rest prints with the plan that the line leaves
+abbrev pub LinePrinted : Option Plan → List ℕ → (Option Plan → List ℕ → Type 0) → List ℕ → Type 0
+LinePrinted plan line Rest out =
+    (after : Option Plan) × (text : List ℕ) × (more : List ℕ) × (out ≡ line ++ (codes ": " ++ (text ++ 10 ∷ more))) × Answers plan line after text × Rest after more
+
 -- the lines that are not passed over are printed, each with its answer, in order; plan is the one in use before them
 abbrev pub Printed : Option Plan → List (List ℕ) → List ℕ → Type 0
 Printed plan [] out = out ≡ []
-Printed plan (line ∷ rest) out =
-    When (passedOver line) (Printed plan rest out)
-    ((after : Option Plan) × (text : List ℕ) × (more : List ℕ) × (out ≡ line ++ (codes ": " ++ (text ++ 10 ∷ more))) × Answers plan line after text × Printed after rest more)
+Printed plan (line ∷ rest) out = When (passedOver line) (Printed plan rest out) (LinePrinted plan line (λ after more. Printed after rest more) out)

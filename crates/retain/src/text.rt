@@ -57,6 +57,14 @@ fn push_bytes(out: &mut String, bytes: &[u8]) -> Result<(), AllocError>
     Ok(())
 }
 
+// One text more.
+fn push_text(out: &mut String, text: &str) -> Result<(), AllocError>
+    ensures { λ r. ⌜ made r (λ _. string-bytes (now (out .exit)) ≡ string-bytes (now (out .entry)) ++ now (text .entry)) ⌝ }
+{
+    out.push_str(text)?;
+    Ok(())
+}
+
 // A space and a number.
 fn push_number(heap: Global, out: &mut String, n: u16) -> Result<(), AllocError>
     ensures { λ r. ⌜ made r (λ _. string-bytes (now (out .exit)) ≡ string-bytes (now (out .entry)) ++ 32 ∷ decimal n) ⌝ }
@@ -127,7 +135,7 @@ fn push_row(heap: Global, out: &mut String, plan: &Plan, row: u16) -> Result<(),
     ensures { λ r. ⌜ made r (λ _. string-bytes (now (out .exit)) ≡ string-bytes (now (out .entry)) ++ rowText (now (plan .entry)) row) ⌝ }
 {
     let head = format!(heap, "\nrow {row}:")?;
-    out.push_str(head.as_str())?;
+    push_text(out, head.as_str())?;
     push_chunks(heap, out, plan, row)?;
     Ok(())
 }
@@ -167,7 +175,7 @@ fn push_home_rows(heap: Global, out: &mut String, plan: &Plan) -> Result<(), All
 fn push_homes(heap: Global, out: &mut String, plan: &Plan) -> Result<(), AllocError>
     ensures { λ r. ⌜ made r (λ _. string-bytes (now (out .exit)) ≡ string-bytes (now (out .entry)) ++ homesText (now (plan .entry))) ⌝ }
 {
-    out.push_str("\nhome:")?;
+    push_text(out, "\nhome:")?;
     push_home_rows(heap, out, plan)?;
     Ok(())
 }

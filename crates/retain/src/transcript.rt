@@ -2,9 +2,9 @@
 ghost use mathlib.Core.Bool.{true, false};
 ghost use mathlib.Core.List.{List, [], _∷_, _++_};
 ghost use mathlib.Core.Path.{_≡_};
-ghost use Prim.Native.Nat.{_<_};
+ghost use Prim.Native.Nat.{ℕ, _<_, _≤_};
 ghost use lib.Chars.{codes};
-ghost use lib.ListN.{length};
+ghost use lib.ListN.{length, getD};
 ghost use Rattle.retain.specs.Answers.{Answers};
 ghost use Rattle.retain.specs.Transcripts.{lines, passedOver, Printed};
 ghost use Rattle.std.specs.declared.option.Option.the-variants.{None};
@@ -18,7 +18,11 @@ use std::alloc::AllocError;
 use std::alloc::Global;
 
 // How many bytes stand before the first newline of a text.
-fn line_len(text: &[u8]) -> usize {
+fn line_len(text: &[u8]) -> usize
+    ensures within { λ r. ⌜ r ≤ length (now (text .entry)) ⌝ }
+    ensures before { λ r. ⌜ ((k : ℕ) → k < r → getD (now (text .entry)) k 0 ≡ 10 → ⊥) ⌝ }
+    ensures stops { λ r. ⌜ (r < length (now (text .entry)) → getD (now (text .entry)) r 0 ≡ 10) ⌝ }
+{
     for (i, c) in text.iter().enumerate() {
         if *c == b'\n' {
             return i;

@@ -1,4 +1,3 @@
-use mathlib.Core.Path.{refl}
 use Rattle.std.proofs.shelf.Tests.{le-leb, lt-leb}
 use Rattle.layout.specs.Placing.{chunkAt}
 use Rattle.layout.proofs.numbers.chunk_in.Needs as need

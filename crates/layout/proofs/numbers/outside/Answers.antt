@@ -1,4 +1,3 @@
-use mathlib.Core.Path.{refl}
 use Prim.Native.Nat.{_-_, _%_}
 use native.Mathlib.Omega.{arith}
 use Rattle.std.proofs.shelf.Bits.{mul-le}
@@ -13,7 +12,7 @@ mul-result c =
     omega (
       arith,
       mul-le (c .beta .result) (c .args .d - c .args .n % c .args .d) 14 14
-      (omega (arith, c .beta .ensures, split (c .pre) (c .if-d-n .taken), stripes-le (c .pre))) (omega (arith, c .pre .high)),
+          (omega (arith, c .beta .ensures, split (c .pre) (c .if-d-n .taken), stripes-le (c .pre))) (omega (arith, c .pre .high)),
     )
 
 pub mul-result-else-d-n : need.mul-result-else-d-n

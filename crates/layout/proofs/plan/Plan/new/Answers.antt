@@ -1,6 +1,5 @@
 use native.Mathlib.Omega.{arith}
 use borrow.Author.Needs.{needs}
-use Rattle.layout.specs.Sizes.{Sized}
 use Rattle.layout.proofs.Facts.{placed}
 use Rattle.layout.proofs.plan.Plan.new.Needs as need
 
