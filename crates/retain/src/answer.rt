@@ -22,16 +22,34 @@ fn respond(heap: Global, plan: Option<Plan>, command: Command) -> Result<Respons
 {
     match command {
         Command::Plan(order, d, r, d2, r2, len) => match Plan::new(order, d, r, d2, r2, len) {
-            Ok(new) => Ok(Response { plan: Some(new), text: String::from_str(heap, "ok")? }),
-            Err(refusal) => Ok(Response { plan, text: text::refused(heap, refusal)? }),
+            Ok(new) => Ok(Response {
+                plan: Some(new),
+                text: String::from_str(heap, "ok")?,
+            }),
+            Err(refusal) => Ok(Response {
+                plan,
+                text: text::refused(heap, refusal)?,
+            }),
         },
         Command::Map => match plan {
-            Some(p) => Ok(Response { plan, text: text::map(heap, &p)? }),
-            None => Ok(Response { plan, text: String::from_str(heap, "no plan")? }),
+            Some(p) => Ok(Response {
+                plan,
+                text: text::map(heap, &p)?,
+            }),
+            None => Ok(Response {
+                plan,
+                text: String::from_str(heap, "no plan")?,
+            }),
         },
         Command::Label(after) => match plan {
-            Some(p) => Ok(Response { plan, text: text::label(heap, Label { plan: p, after })? }),
-            None => Ok(Response { plan, text: String::from_str(heap, "no plan")? }),
+            Some(p) => Ok(Response {
+                plan,
+                text: text::label(heap, Label { plan: p, after })?,
+            }),
+            None => Ok(Response {
+                plan,
+                text: String::from_str(heap, "no plan")?,
+            }),
         },
     }
 }
@@ -42,6 +60,9 @@ pub fn answer(heap: Global, plan: Option<Plan>, line: &[u8]) -> Result<Response,
 {
     match script::parse(line) {
         Some(command) => respond(heap, plan, command),
-        None => Ok(Response { plan, text: String::from_str(heap, "not understood")? }),
+        None => Ok(Response {
+            plan,
+            text: String::from_str(heap, "not understood")?,
+        }),
     }
 }

@@ -11,8 +11,8 @@ ghost use Rattle.std.specs.Of.String.{string-bytes};
 ghost use Rattle.std.specs.Text.{digitChar};
 ghost use Rattle.std.specs.Vec.{made};
 ghost use Rattle.std.specs.Written.{decimal};
-use layout::label::Label;
 use layout::label::LABEL_BYTES;
+use layout::label::Label;
 use layout::plan::Plan;
 use layout::refusal::Layer;
 use layout::refusal::Refusal;
@@ -25,7 +25,11 @@ fn hex_digit(d: u8) -> char
     ensures value { λ r. ⌜ r ≡ digitChar d ⌝ }
     ensures ascii { λ r. ⌜ r < 128 ⌝ }
 {
-    if d < 10 { char::from(b'0' + d) } else { char::from(b'a' + (d - 10)) }
+    if d < 10 {
+        char::from(b'0' + d)
+    } else {
+        char::from(b'a' + (d - 10))
+    }
 }
 
 // One character more.
@@ -103,7 +107,10 @@ fn sizes(heap: Global, plan: &Plan) -> Result<String, AllocError>
     let rows = plan.rows();
     let modules = plan.modules();
     let slots = plan.slots();
-    format!(heap, "l {l}, stripes {stripes}, rows {rows}, modules {modules}, slots {slots}")
+    format!(
+        heap,
+        "l {l}, stripes {stripes}, rows {rows}, modules {modules}, slots {slots}"
+    )
 }
 
 // The chunk in a cell.
@@ -186,7 +193,10 @@ fn push_counts(heap: Global, out: &mut String, plan: &Plan) -> Result<(), AllocE
 {
     let (data, parities) = plan.counts();
     let l = plan.chunks();
-    let text = format!(heap, "\ncounts: {data} data, {parities} parities\nre-encoding: {l} data")?;
+    let text = format!(
+        heap,
+        "\ncounts: {data} data, {parities} parities\nre-encoding: {l} data"
+    )?;
     out.push_str(text.as_str())?;
     Ok(())
 }

@@ -12,8 +12,7 @@ use Rattle.retain.proofs.script.numbers.Needs as need
 pub loop-i-again : need.loop-i-again
 loop-i-again g c =
     let here : c .loop-i .i < length (c .loop-i .out) = omega (arith, c .loop-i .inv .0) in
-    let read : Numbered _ (c .in-Continue-out .field-0) = subst (λ w. Numbered w (c .in-Continue-out .field-0)) (c .split-word .ensures .word) (c .in-Continue-out .ensures tt) in
-    (
+    let read : Numbered _ (c .in-Continue-out .field-0) = subst (λ w. Numbered w (c .in-Continue-out .field-0)) (c .split-word .ensures .word) (c .in-Continue-out .ensures tt) in (
       length-set (c .loop-i .out) (c .loop-i .i) _ ∙ c .loop-i .inv .0,
       rw (add-one (c .loop-i .i), take-suc-set (c .loop-i .out) (c .loop-i .i) (c .in-Continue-out .field-0) here, c .split-word .ensures .rest)
           (front-more (c .args .text .now) (take (c .loop-i .i) (c .loop-i .out)) (c .loop-i .left .now) (c .in-Continue-out .field-0) (c .loop-i .inv .1) read),
@@ -32,8 +31,7 @@ loop-i-holds g c = (length-replicate (g .N) 0, refl)
 
 pub returns-then-is-empty : need.returns-then-is-empty
 returns-then-is-empty g c =
-    let all = take-all (c .loop-i .i) (c .loop-i .out) (omega (arith, c .loop-i .inv .0)) in
-    (
+    let all = take-all (c .loop-i .i) (c .loop-i .out) (omega (arith, c .loop-i .inv .0)) in (
       c .loop-i .inv .0,
       front-all (c .args .text .now) (c .loop-i .out) (c .loop-i .left .now) (subst (λ ns. Front (c .args .text .now) ns (c .loop-i .left .now)) all (c .loop-i .inv .1))
           (sym (c .split-word-2 .ensures .word) ∙ empty-list _ (true-eqb _ 0 (c .if-is-empty .ensures tt))),
