@@ -4,3 +4,5 @@ pub mod Joins
 pub mod Labels
 pub mod Lines
 pub mod Plans
+pub mod Commands
+pub mod Plays

@@ -16,9 +16,10 @@ use Rattle.std.proofs.shelf.Numerals.{digit-at}
 use Rattle.std.proofs.shelf.Tests.{cases-lt}
 use Rattle.std.proofs.shelf.Ways.{tells}
 use Rattle.retain.specs.declared.script.Command.{Command}
-use Rattle.retain.specs.declared.script.Command.the-variants.{Plan, Map, Label}
+use Rattle.retain.specs.declared.script.Command.the-variants.{Plan, Map, Label, Rack, OnRack}
+use Rattle.retain.specs.declared.script.RackCall.the-variants.{Get, Put, Pull, Fit, Ask}
 use Rattle.retain.specs.declared.script.Name.the-variants as Name
-use Rattle.retain.specs.Script.{flag, nameOf, argumentsOf}
+use Rattle.retain.specs.Script.{flag, nameOf, Arguments}
 use Rattle.retain.specs.Words.{word, rest, Numbered, Numbers}
 
 pub digit-value : (c : ℕ) → 48 ≤ c → c ≤ 57 → digitValue c ≡ c - 48
@@ -100,6 +101,21 @@ one-is [] h = absurd (omega arith)
 one-is (a ∷ []) h = refl
 one-is (a ∷ b ∷ ns) h = absurd (omega arith)
 
+pub three-are : (ns : List ℕ) → length ns ≡ 3 → ns ≡ getD ns 0 0 ∷ getD ns 1 0 ∷ getD ns 2 0 ∷ []
+three-are [] h = absurd (omega arith)
+three-are (a ∷ []) h = absurd (omega arith)
+three-are (a ∷ b ∷ []) h = absurd (omega arith)
+three-are (a ∷ b ∷ c ∷ []) h = refl
+three-are (a ∷ b ∷ c ∷ d ∷ ns) h = absurd (omega arith)
+
+pub four-are : (ns : List ℕ) → length ns ≡ 4 → ns ≡ getD ns 0 0 ∷ getD ns 1 0 ∷ getD ns 2 0 ∷ getD ns 3 0 ∷ []
+four-are [] h = absurd (omega arith)
+four-are (a ∷ []) h = absurd (omega arith)
+four-are (a ∷ b ∷ []) h = absurd (omega arith)
+four-are (a ∷ b ∷ c ∷ []) h = absurd (omega arith)
+four-are (a ∷ b ∷ c ∷ d ∷ []) h = refl
+four-are (a ∷ b ∷ c ∷ d ∷ e ∷ ns) h = absurd (omega arith)
+
 pub six-are : (ns : List ℕ) → length ns ≡ 6 → ns ≡ getD ns 0 0 ∷ getD ns 1 0 ∷ getD ns 2 0 ∷ getD ns 3 0 ∷ getD ns 4 0 ∷ getD ns 5 0 ∷ []
 six-are [] h = absurd (omega arith)
 six-are (a ∷ []) h = absurd (omega arith)
@@ -124,9 +140,15 @@ flag-small true = omega arith
 flag-small false = omega arith
 
 -- a flag above 1 is no label's
-pub no-label : (text ns : List ℕ) → length ns ≡ 1 → Numbers text ns → 1 < getD ns 0 0 → (c : Command) → nameOf c ≡ Name.Label → Numbers text (argumentsOf c) → ⊥
+pub no-label : (text ns : List ℕ) → length ns ≡ 1 → Numbers text ns → 1 < getD ns 0 0 → (c : Command) → nameOf c ≡ Name.Label → Arguments text c → ⊥
 no-label text ns one h l (Plan q d r d′ r′ L) e k = let z : _≡_ {A = ℕ} 0 1 = cc in omega arith
 no-label text ns one h l Map e k = let z : _≡_ {A = ℕ} 0 1 = cc in omega arith
+no-label text ns one h l (Rack kind q m s n) e k = let z : _≡_ {A = ℕ} 0 1 = cc in omega arith
+no-label text ns one h l (OnRack (Get m s o)) e k = let z : _≡_ {A = ℕ} 0 1 = cc in omega arith
+no-label text ns one h l (OnRack (Put m s o v)) e k = let z : _≡_ {A = ℕ} 0 1 = cc in omega arith
+no-label text ns one h l (OnRack (Pull m)) e k = let z : _≡_ {A = ℕ} 0 1 = cc in omega arith
+no-label text ns one h l (OnRack (Fit m)) e k = let z : _≡_ {A = ℕ} 0 1 = cc in omega arith
+no-label text ns one h l (OnRack (Ask m)) e k = let z : _≡_ {A = ℕ} 0 1 = cc in omega arith
 no-label text ns one h l (Label after) e k =
     let here = subst (Numbers text) (one-is ns one) h in
     omega (arith, here .0 .1, k .0 .1, flag-small after)

@@ -5,7 +5,7 @@ ghost use mathlib.Core.Path.{_≡_};
 ghost use Prim.Native.Nat.{ℕ, _≤_};
 ghost use lib.ListN.{length, take, drop};
 ghost use Rattle.retain.specs.Words.{trimmed, front, behind, word, rest, Numbered, Numbers};
-ghost use Rattle.retain.specs.Script.{spelled, Takes, Understood};
+ghost use Rattle.retain.specs.Script.{spelled, kindName, Takes, Understood};
 ghost use Rattle.std.specs.Options.{Cases};
 
 /// A command of a script.
@@ -17,6 +17,29 @@ pub enum Command {
     Map,
     /// shows the label of the plan, before its changeover or after it
     Label(bool),
+    /// makes a rack that later lines use: order, modules, slots, length
+    Rack(RackKind, u16, u16, u16, u16),
+    /// a call on the rack
+    OnRack(RackCall),
+}
+
+/// The two kinds of rack.
+#[derive(Clone, Copy, PartialEq, Eq, Debug)]
+pub enum RackKind {
+    Flat,
+    Turning,
+}
+
+/// A call on a rack.
+#[derive(Clone, Copy, PartialEq, Eq, Debug)]
+pub enum RackCall {
+    /// module, slot and offset
+    Get(u16, u16, u16),
+    /// module, slot, offset and symbol
+    Put(u16, u16, u16, u16),
+    Pull(u16),
+    Fit(u16),
+    Ask(u16),
 }
 
 /// The name of a command.
@@ -25,6 +48,12 @@ pub enum Name {
     Plan,
     Map,
     Label,
+    Rack,
+    Get,
+    Put,
+    PullModule,
+    FitModule,
+    Ask,
 }
 
 // How many spaces a text begins with.
@@ -105,6 +134,18 @@ fn name_of(word: &[u8]) -> Option<Name>
         Some(Name::Map)
     } else if word == b"label" {
         Some(Name::Label)
+    } else if word == b"rack" {
+        Some(Name::Rack)
+    } else if word == b"get" {
+        Some(Name::Get)
+    } else if word == b"put" {
+        Some(Name::Put)
+    } else if word == b"pull-module" {
+        Some(Name::PullModule)
+    } else if word == b"fit-module" {
+        Some(Name::FitModule)
+    } else if word == b"ask" {
+        Some(Name::Ask)
     } else {
         None
     }
@@ -134,6 +175,63 @@ fn label_command(text: &[u8]) -> Option<Command>
     Some(Command::Label(flag == 1))
 }
 
+// The kind of rack that a word spells.
+fn kind_of(word: &[u8]) -> Option<RackKind>
+    ensures { λ r. ⌜ Cases r ((k : RackKind) → now (word .entry) ≡ kindName k → ⊥) (λ k. now (word .entry) ≡ kindName k) ⌝ }
+{
+    if word == b"flat" {
+        Some(RackKind::Flat)
+    } else if word == b"turning" {
+        Some(RackKind::Turning)
+    } else {
+        None
+    }
+}
+
+fn rack_command(text: &[u8]) -> Option<Command>
+    ensures { λ r. ⌜ Takes Name.Rack (now (text .entry)) r ⌝ }
+{
+    let (word, rest) = split_word(text);
+    let kind = kind_of(word)?;
+    let [order, modules, slots, length] = numbers::<4>(rest)?;
+    Some(Command::Rack(kind, order, modules, slots, length))
+}
+
+fn get_command(text: &[u8]) -> Option<Command>
+    ensures { λ r. ⌜ Takes Name.Get (now (text .entry)) r ⌝ }
+{
+    let [module, slot, offset] = numbers::<3>(text)?;
+    Some(Command::OnRack(RackCall::Get(module, slot, offset)))
+}
+
+fn put_command(text: &[u8]) -> Option<Command>
+    ensures { λ r. ⌜ Takes Name.Put (now (text .entry)) r ⌝ }
+{
+    let [module, slot, offset, symbol] = numbers::<4>(text)?;
+    Some(Command::OnRack(RackCall::Put(module, slot, offset, symbol)))
+}
+
+fn pull_command(text: &[u8]) -> Option<Command>
+    ensures { λ r. ⌜ Takes Name.PullModule (now (text .entry)) r ⌝ }
+{
+    let [module] = numbers::<1>(text)?;
+    Some(Command::OnRack(RackCall::Pull(module)))
+}
+
+fn fit_command(text: &[u8]) -> Option<Command>
+    ensures { λ r. ⌜ Takes Name.FitModule (now (text .entry)) r ⌝ }
+{
+    let [module] = numbers::<1>(text)?;
+    Some(Command::OnRack(RackCall::Fit(module)))
+}
+
+fn ask_command(text: &[u8]) -> Option<Command>
+    ensures { λ r. ⌜ Takes Name.Ask (now (text .entry)) r ⌝ }
+{
+    let [module] = numbers::<1>(text)?;
+    Some(Command::OnRack(RackCall::Ask(module)))
+}
+
 /// The command that a line writes.
 pub fn parse(line: &[u8]) -> Option<Command>
     ensures { λ r. ⌜ Understood (now (line .entry)) r ⌝ }
@@ -143,5 +241,11 @@ pub fn parse(line: &[u8]) -> Option<Command>
         Name::Plan => plan_command(rest),
         Name::Map => map_command(rest),
         Name::Label => label_command(rest),
+        Name::Rack => rack_command(rest),
+        Name::Get => get_command(rest),
+        Name::Put => put_command(rest),
+        Name::PullModule => pull_command(rest),
+        Name::FitModule => fit_command(rest),
+        Name::Ask => ask_command(rest),
     }
 }

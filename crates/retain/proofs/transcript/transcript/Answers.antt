@@ -1,23 +1,27 @@
-use mathlib.Core.Path.{sym, subst, ap, _∙_}
-use mathlib.Core.List.{[], _∷_, _++_}
-use lib.Chars.{codes}
-use borrow.Author.Tests.{true-eqb}
-use Rattle.std.specs.declared.option.Option.the-variants.{None}
+use mathlib.Core.Path.{sym, ap, subst, _∙_}
+use mathlib.Core.List.{[]}
+use lib.ListN.{drop}
+use Rattle.std.specs.declared.option.Option.the-variants.{None, Some}
 use Rattle.std.specs.Of.Vec.{vec-items}
-use Rattle.std.specs.Of.String.{string-bytes}
-use Rattle.retain.specs.Transcripts.{lines}
-use Rattle.retain.proofs.Lines.{Sofar, answered, all-printed, no-lines}
+use Rattle.retain.specs.Answers.{bench}
+use Rattle.retain.specs.Benches.{rackBy}
+use Rattle.retain.specs.Transcripts.{lines, Sofar}
+use Rattle.retain.proofs.Lines.{all-printed}
+use Rattle.retain.proofs.Plays.{ended}
 use Rattle.retain.proofs.transcript.transcript.Needs as need
 
-pub loop-left-again-in-Continue-push-line : need.loop-left-again-in-Continue-push-line
-loop-left-again-in-Continue-push-line c =
-    answered None (c .loop-left .plan) (c .in-Continue-next .field-0 .plan) (lines (c .args .script .now)) (lines (c .loop-left .left .now)) (lines (c .split-line .result .1 .now)) (c .split-line .result .0 .now)
-    (string-bytes (c .in-Continue-next .field-0 .text)) (vec-items (c .loop-left .out)) (vec-items (c .push-line .last .out))
-    (c .loop-left .inv) (c .split-line .ensures .lines) (sym (c .if-not-is-passed-over .ensures tt)) (c .in-Continue-next .ensures tt)
-    (c .in-Continue-push-line .ensures tt ∙ ap (λ t. vec-items (c .loop-left .out) ++ (c .split-line .result .0 .now ++ (codes ": " ++ (t ++ 10 ∷ [])))) (c .as-str .ensures .value))
+pub loop-stop-again : need.loop-stop-again
+loop-stop-again c =
+    let h = c .in-Continue-stop-2 .ensures tt in (
+      h .0,
+      h .1 (bench None None) (lines (c .args .script .now))
+          (subst (λ l. Sofar (bench None None) (lines (c .args .script .now)) (bench (c .loop-stop .stop .plan) (rackBy (Some (c .in-Some .request)) None)) (lines l) (vec-items (c .loop-stop .out))) (sym (c .split-at .ensures .back))
+          (subst (λ o. Sofar (bench None None) (lines (c .args .script .now)) (bench (c .loop-stop .stop .plan) (rackBy o None)) (lines (drop (c .loop-stop .stop .played) (c .loop-stop .left .now))) (vec-items (c .loop-stop .out))) (c .in-Some .is)
+          (c .loop-stop .inv .1))),
+    )
 
 pub returns : need.returns
 returns c =
-    let none = no-lines (c .loop-left .left .now) (true-eqb _ 0 (c .loop-left-test .ensures tt)) in
-    all-printed None (c .loop-left .plan) (lines (c .args .script .now)) (vec-items (c .loop-left .out))
-    (subst (λ l. Sofar None (lines (c .args .script .now)) (c .loop-left .plan) l (vec-items (c .loop-left .out))) none (c .loop-left .inv))
+    let none = ended (c .loop-stop .stop .request) (c .loop-stop .stop .played) (c .loop-stop .left .now) (c .in-rest .is) (c .loop-stop .inv .0) in
+    all-printed (bench None None) (bench (c .loop-stop .stop .plan) (rackBy (c .loop-stop .stop .request) None)) (lines (c .args .script .now)) (vec-items (c .loop-stop .out))
+    (subst (λ l. Sofar (bench None None) (lines (c .args .script .now)) (bench (c .loop-stop .stop .plan) (rackBy (c .loop-stop .stop .request) None)) l (vec-items (c .loop-stop .out))) none (c .loop-stop .inv .1))

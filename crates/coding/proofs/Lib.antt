@@ -1,0 +1,14 @@
+pub mod Sums
+pub mod Loops
+pub mod Positions
+pub mod Listed
+pub mod Counting
+pub mod Parities
+pub mod Grouping
+pub mod Rebuilding
+pub mod Weighted
+pub mod Chosen
+pub mod Solving
+pub mod Preparing
+pub mod OfPlan
+pub mod Losses

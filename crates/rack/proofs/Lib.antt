@@ -1,0 +1,4 @@
+pub mod Laids
+pub mod Flats
+pub mod Turns
+pub mod Clears
