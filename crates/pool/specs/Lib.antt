@@ -1,0 +1,17 @@
+pub mod Refusals
+pub mod Book
+pub mod Standing
+pub mod Agrees
+pub mod Effects
+pub mod Law
+pub mod Pools
+pub mod Results
+pub mod Blocks
+pub mod Asked
+pub mod Openings
+pub mod Replays
+pub mod Growth
+pub mod Outs
+pub mod Restored
+pub mod WordSteps
+pub mod WordCalls
