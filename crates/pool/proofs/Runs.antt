@@ -9,7 +9,7 @@ use Rattle.pool.specs.Book.{Book, answer, after}
 use Rattle.pool.specs.Standing.{Standing, Kept}
 use Rattle.pool.specs.Agrees.{Agrees}
 use Rattle.pool.specs.Effects.{Does}
-use Rattle.pool.specs.Law.{Follows, Runs, bookAfter, bookAnswers}
+use Rattle.pool.specs.Law.{Follows, Runs, Plays, bookAfter, bookAnswers}
 use Rattle.pool.proofs.Steps.{step}
 
 module _ (A : Arithmetic) (p : Scheme) where
@@ -24,6 +24,14 @@ module _ (A : Arithmetic) (p : Scheme) where
   runs-push s b [] (x ∷ xs) t c a u r f = absurd r
   runs-push s b (x ∷ cs) [] t c a u r f = absurd r
   runs-push s b (x ∷ cs) (y ∷ xs) t c a u r f = (r .0, r .1, runs-push (r .0) (after p (A .order) b x) cs xs t c a u (r .2) f)
+
+  -- the same of any pool
+  pub plays-push : (s : Standing) (cs : List Call) (xs : List Answer) (t : Standing) (c : Call) (a : Answer) (u : Standing) →
+      Plays A p s cs xs t → Does A p t c a u → Plays A p s (cs ++ c ∷ []) (xs ++ a ∷ []) u
+  plays-push s [] [] t c a u r f = (u, subst (λ (x : Standing). Does A p x c a u) (sym r) f, refl)
+  plays-push s [] (x ∷ xs) t c a u r f = absurd r
+  plays-push s (x ∷ cs) [] t c a u r f = absurd r
+  plays-push s (x ∷ cs) (y ∷ xs) t c a u r f = (r .0, r .1, plays-push (r .0) cs xs t c a u (r .2) f)
 
   -- the answers of a run are the book's
   pub runs-answers : (s : Standing) (b : Book) (cs : List Call) (xs : List Answer) (e : Standing) → Runs A p s b cs xs e → xs ≡ bookAnswers p (A .order) b cs

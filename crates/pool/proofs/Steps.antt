@@ -28,6 +28,16 @@ use Rattle.pool.proofs.Writing.{write-agrees}
 use Rattle.pool.proofs.Carrying.{begun-chunk, begin-agrees, carried-chunk, carry-agrees, close-agrees, drop-agrees}
 use Rattle.pool.proofs.Fitting.{pull-agrees, refit-agrees}
 
+-- a call that its checks refuse, and one that they accept
+pub does-refused : (A : Arithmetic) (p : Scheme) (s : Standing) (c : Call) (a : Answer) (t : Standing) (e : Refusal) →
+    refusal p (A .order) (s .phase) (s .carried) (outOf s) c ≡ Some e → a ≡ Refused e → t ≡ s → Does A p s c a t
+does-refused A p s c a t e r is same =
+    subst (λ (o : Option Refusal). Cases o (Effect A p s c a t) (λ e. (a ≡ Refused e) × (t ≡ s))) (sym r) (is, same)
+
+pub does-granted : (A : Arithmetic) (p : Scheme) (s : Standing) (c : Call) (a : Answer) (t : Standing) →
+    refusal p (A .order) (s .phase) (s .carried) (outOf s) c ≡ None → Effect A p s c a t → Does A p s c a t
+does-granted A p s c a t r f = subst (λ (o : Option Refusal). Cases o (Effect A p s c a t) (λ e. (a ≡ Refused e) × (t ≡ s))) (sym r) f
+
 -- what the checks that a call has passed say
 pub record Word-fits (p : Scheme) (ph : Phase) (out : ℕ → Bool) (c o : ℕ) : Type 0 where
   pub chunk : c < p .chunks
@@ -144,6 +154,7 @@ module _ (A : Arithmetic) (L : Lawful A) (p : Scheme) (sound : Sound A p) (s : S
         says = g .0 ∙ ap (λ (o : Option Refusal). answerBy o (granted p b c)) (sym is);
         agrees = subst (λ (o : Option Refusal). Agrees A p t (noteBy o (noted b c) b)) (sym is) (g .1);
         keeps = g .2;
+        does = does-granted A p s c a t e f;
       }
   by-refusal c a t (Some r) e f =
       let is : bookRefusal p (A .order) b c ≡ Some r = sym (refused-alike A p sound s b agrees (A .order) c) ∙ e in
@@ -151,19 +162,10 @@ module _ (A : Arithmetic) (L : Lawful A) (p : Scheme) (sound : Sound A p) (s : S
         says = f .0 ∙ ap (λ (o : Option Refusal). answerBy o (granted p b c)) (sym is);
         agrees = subst (λ (o : Option Refusal). Agrees A p t (noteBy o (noted b c) b)) (sym is) (told t s b (f .1) agrees);
         keeps = λ _. same-data t s (f .1) (λ j o lj lo _. refl);
+        does = does-refused A p s c a t r e (f .0) (f .1);
       }
 
 -- a call of a pool that agrees with a book follows the book
 pub step : Every-call-follows
 step A L p sound s b c a t kept agrees does =
     by-refusal A L p sound s b kept agrees c a t (refusal p (A .order) (s .phase) (s .carried) (outOf s) c) refl does
-
--- a call that its checks refuse, and one that they accept
-pub does-refused : (A : Arithmetic) (p : Scheme) (s : Standing) (c : Call) (a : Answer) (t : Standing) (e : Refusal) →
-    refusal p (A .order) (s .phase) (s .carried) (outOf s) c ≡ Some e → a ≡ Refused e → t ≡ s → Does A p s c a t
-does-refused A p s c a t e r is same =
-    subst (λ (o : Option Refusal). Cases o (Effect A p s c a t) (λ e. (a ≡ Refused e) × (t ≡ s))) (sym r) (is, same)
-
-pub does-granted : (A : Arithmetic) (p : Scheme) (s : Standing) (c : Call) (a : Answer) (t : Standing) →
-    refusal p (A .order) (s .phase) (s .carried) (outOf s) c ≡ None → Effect A p s c a t → Does A p s c a t
-does-granted A p s c a t r f = subst (λ (o : Option Refusal). Cases o (Effect A p s c a t) (λ e. (a ≡ Refused e) × (t ≡ s))) (sym r) f

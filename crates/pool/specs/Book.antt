@@ -52,11 +52,12 @@ groupOf p Row j = p .row j
 abbrev pub modules : Scheme → ℕ
 modules p = p .d′ + max (p .r) (p .r′)
 
--- the lowest number below n that passes a test
+-- a number that is found, or else n if it passes
 abbrev pub orLast : Option ℕ → Bool → ℕ → Option ℕ
 orLast (Some m) b n = Some m
 orLast None b n = cond b (Some n) None
 
+-- the lowest number below n that passes a test
 abbrev pub lowest : (ℕ → Bool) → ℕ → Option ℕ
 lowest f zero = None
 lowest f (suc n) = orLast (lowest f n) (f n) n
@@ -78,10 +79,11 @@ abbrev pub refuseAt : Option ℕ → (ℕ → Refusal) → Option Refusal
 refuseAt None e = None
 refuseAt (Some n) e = Some (e n)
 
--- the place of a word, and then the repair of its chunk
+-- the place of a word, and then the checks after it
 abbrev pub wordRefusal : Scheme → Phase → (ℕ → Bool) → ℕ → ℕ → Option Refusal → Option Refusal
 wordRefusal p ph out c o rest = refuseIf (leb (p .chunks) c) (no-word 1) (refuseIf (leb (p .len) o) (no-word 2) rest)
 
+-- the repair of a chunk whose module is out
 abbrev pub repairRefusal : Scheme → Phase → (ℕ → Bool) → ℕ → Option Refusal
 repairRefusal p ph out c =
     refuseIf (out (p .column c) && beyond p (settled ph) out (groupOf p (settled ph) c)) (beyond-repair (groupOf p (settled ph) c)) None

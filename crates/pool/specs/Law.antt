@@ -32,12 +32,13 @@ ofChangeover Drop = true
 abbrev pub DataKept : Scheme → Meaning → Meaning → Type 0
 DataKept p w w′ = (j o : ℕ) → j < p .chunks → o < p .len → w .fitted (p .column j) ≡ true → w′ .symbol (p .column j) (p .row j) o ≡ w .symbol (p .column j) (p .row j) o
 
--- a call takes a pool from s to t: it answers what the book does, the pool agrees with the book after it, and a call of a
--- changeover keeps the data
+-- a call takes a pool from s to t: it answers what the book does, the pool agrees with the book after it, a call of a
+-- changeover keeps the data, and all that it answers and leaves is as the call's rule says
 pub record Follows (A : Arithmetic) (p : Scheme) (s : Standing) (b : Book) (c : Call) (a : Answer) (t : Standing) : Type 0 where
   pub says : a ≡ answer p (A .order) b c
   pub agrees : Agrees A p t (after p (A .order) b c)
   pub keeps : ofChangeover c ≡ true → DataKept p (s .held) (t .held)
+  pub does : Does A p s c a t
 
 -- whatever call is made of a pool that agrees with a book, over any field and any sound scheme, it follows the book
 abbrev pub Every-call-follows : Type 0
@@ -51,6 +52,13 @@ Runs A p s b [] [] e = s ≡ e
 Runs A p s b [] (a ∷ rest) e = ⊥
 Runs A p s b (c ∷ cs) [] e = ⊥
 Runs A p s b (c ∷ cs) (a ∷ rest) e = (t : Standing) × Follows A p s b c a t × Runs A p t (after p (A .order) b c) cs rest e
+
+-- the same of any pool, also of one that agrees with no book: each call answers and leaves what its rule says
+abbrev pub Plays : Arithmetic → Scheme → Standing → List Call → List Answer → Standing → Type 0
+Plays A p s [] [] e = s ≡ e
+Plays A p s [] (a ∷ rest) e = ⊥
+Plays A p s (c ∷ cs) [] e = ⊥
+Plays A p s (c ∷ cs) (a ∷ rest) e = (t : Standing) × Does A p s c a t × Plays A p t cs rest e
 
 -- the book after a list of calls, and what it answers to them
 abbrev pub bookAfter : Scheme → ℕ → Book → List Call → Book
@@ -95,7 +103,7 @@ summed f (e ∷ es) = f (e .told) + summed f es
 abbrev pub StaysOpen : Entry → Type 0
 StaysOpen e = (e ≡ entry Close Done → ⊥) × (e ≡ entry Drop Done → ⊥)
 
--- Wherever a begin was accepted and later a close, and between them neither a close nor a drop, the numbers that the carries
+-- Wherever a begin was accepted and later a close, and between them neither a close nor a drop was, the numbers that the carries
 -- between them answered add up to these.
 abbrev pub AddsUp : ℕ → ℕ → List Entry → Type 0
 AddsUp data-chunks parity-chunks h =

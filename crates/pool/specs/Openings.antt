@@ -43,7 +43,7 @@ misfit order modules slots len q w =
 abbrev pub fitRefusal : Plan → ℕ → Meaning → Option Refusal
 fitRefusal p q w = misfit (p .order) (modulesOf (p .r) (p .d2) (p .r2)) (slotsOf (p .d) (p .d2)) (p .len) q w
 
--- laying wants besides that every module is fitted
+-- laying wants besides that each of the M modules is fitted
 abbrev pub layRefusal : Plan → ℕ → Meaning → Option Refusal
 layRefusal p q w = orElse (fitRefusal p q w) (refuseAt (lowest (λ m. not (w .fitted m)) (modulesOf (p .r) (p .d2) (p .r2))) module-out)
 

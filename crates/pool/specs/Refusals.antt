@@ -36,7 +36,7 @@ module-out m = record { number = 11; layer = Pool; place = m }
 abbrev pub changeover-voided : Refusal
 changeover-voided = record { number = 12; layer = Pool; place = 0 }
 
--- 13: too many stripes are carried, or too few
+-- 13: all stripes are carried already, or not yet all; the place is how many are
 abbrev pub wrong-count : ℕ → Refusal
 wrong-count n = record { number = 13; layer = Pool; place = n }
 

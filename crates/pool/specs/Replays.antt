@@ -13,14 +13,15 @@ use Rattle.pool.specs.declared.pool.Pool.{Pool}
 use Rattle.pool.specs.Book.{Book, blank}
 use Rattle.pool.specs.Standing.{Standing}
 use Rattle.pool.specs.Agrees.{Agrees}
-use Rattle.pool.specs.Law.{Runs, bookAfter, bookAnswers, history, AddsUp}
+use Rattle.pool.specs.Law.{Runs, Plays, bookAfter, bookAnswers, history, AddsUp}
 use Rattle.pool.specs.Pools.{standing, Held}
 use Rattle.pool.specs.Openings.{laidOver}
 
 -- Calls cs take a pool that agrees with book b from s to e, and answer xs.
 pub record Law (A : Arithmetic) (p : Plan) (s : Standing) (b : Book) (cs : List Call) (xs : List Answer) (e : Standing) : Type 0 where
   -- after every call, accepted or refused: the answer is the book's, each symbol in force on a fitted module is that of a fresh
-  -- encoding of the book's image, and a call of a changeover has kept each data chunk on a fitted module
+  -- encoding of the book's image, a call of a changeover has kept each data chunk on a fitted module, and the whole memory is as
+  -- the call's rule leaves it
   pub each-call : Runs A (schemeOf p) s b cs xs e
   -- so the answers are the book's, and at the end the pool agrees with the book
   pub answers-are : xs ≡ bookAnswers (schemeOf p) (A .order) b cs
@@ -29,11 +30,12 @@ pub record Law (A : Arithmetic) (p : Plan) (s : Standing) (b : Book) (cs : List 
   pub adds-up : AddsUp (dataRead (p .d) (p .r) (p .d2) (p .r2)) (paritiesRead (p .d) (p .r) (p .d2) (p .r2)) (history cs xs)
 
 module _ {F R : Type 0} (arithmetic : F → Arithmetic) (valid : R → Type 0) (meaning : R → Meaning) where
-  -- calls take a pool from x to y, from any state that agrees with a book
+  -- calls take a pool from x to y: each does what its rule says, and from any state that agrees with a book the law holds
   pub record Replayed (x y : Pool F R) (cs : List Call) (xs : List Answer) : Type 0 where
     pub held : Held arithmetic valid meaning y
     pub same-plan : y .plan ≡ x .plan
     pub same-field : y .field ≡ x .field
+    pub plays : Plays (arithmetic (x .field)) (schemeOf (x .plan)) (standing arithmetic valid meaning x) cs xs (standing arithmetic valid meaning y)
     pub law : (b : Book) → Agrees (arithmetic (x .field)) (schemeOf (x .plan)) (standing arithmetic valid meaning x) b →
         Law (arithmetic (x .field)) (x .plan) (standing arithmetic valid meaning x) b cs xs (standing arithmetic valid meaning y)
 

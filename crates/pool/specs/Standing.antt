@@ -20,7 +20,7 @@ abbrev pub outOf : Standing → ℕ → Bool
 outOf s m = not (s .held .fitted m)
 
 -- what holds of every pool, also of one that is opened over a memory that encodes nothing: the rack is large enough and has the
--- field's order, and while the changeover is under way all modules are fitted
+-- field's order, no more stripes are carried than there are, and while the changeover is under way all modules are fitted
 pub record Kept (A : Arithmetic) (p : Scheme) (s : Standing) : Type 0 where
   pub bounded : Bounded (s .held)
   pub order-is : s .held .order ≡ A .order

@@ -11,7 +11,7 @@ pub enum Phase {
     Before,
     /// 1: the parities of the rows are being staged
     UnderWay,
-    /// 2: given up, since a module was pulled
+    /// 2: voided: a module was pulled while it was under way
     Voided,
     /// 3: done; the parities of the rows are settled
     After,

@@ -1,11 +1,11 @@
 // Lists of calls, made of a pool one after another.
 ghost use mathlib.Core.Path.{_≡_};
+ghost use Prim.Native.Nat.{_<_, _≤_};
+ghost use lib.ListN.{length, take, drop};
 ghost use Rattle.pool.specs.Pools.{Obeys};
 ghost use Rattle.pool.specs.Replays.{Replays};
 ghost use Rattle.pool.specs.Results.{ofDone, ofSymbol, ofCounts};
 ghost use Rattle.pool.specs.declared.kinds.Call.the-variants.{Begin, Carry, Ready, Close, Drop};
-ghost use Rattle.std.specs.Of.Vec.{vec-items};
-ghost use Rattle.std.specs.Vec.{made, refused};
 use crate::kinds::Answer;
 use crate::kinds::Call;
 use crate::orders::AnyOrder;
@@ -15,8 +15,6 @@ use crate::pool::Pool;
 use field::Field;
 use layout::refusal::Refusal;
 use rack::rack::Rack;
-use std::alloc::AllocError;
-use std::alloc::Global;
 
 /// What a read answers.
 fn symbol_told(result: Result<u16, Refusal>) -> Answer
@@ -48,13 +46,26 @@ fn counts_told(result: Result<(u16, u16), Refusal>) -> Answer
     }
 }
 
+/// How many of the calls there is room to answer.
+fn room_for(calls: &[Call], told: &[Answer]) -> usize
+    ensures within { λ r. ⌜ r ≤ length (now (calls .entry)) ⌝ }
+    ensures room { λ r. ⌜ r ≤ length (now (told .entry)) ⌝ }
+    ensures full { λ r. ⌜ (r < length (now (calls .entry)) → length (now (told .entry)) ≤ r) ⌝ }
+    ensures all { λ r. ⌜ (r < length (now (told .entry)) → length (now (calls .entry)) ≤ r) ⌝ }
+{
+    if calls.len() < told.len() {
+        calls.len()
+    } else {
+        told.len()
+    }
+}
+
 impl<F: Field, R: Rack> Pool<F, R> {
     /// Carries the next stripe of the changeover that the order holds: what it adds goes into the staged parities of the rows.
     /// Answers how many data chunks and how many parity chunks were read.
-    pub fn carry(&mut self, order: &Order) -> Result<(u16, u16), Refusal>
+    pub fn carry(&mut self, _order: &Order) -> Result<(u16, u16), Refusal>
         ensures { λ r. ⌜ Obeys (F·Field .arithmetic) (R·Rack .valid) (R·Rack .meaning) (now (self .entry)) (now (self .exit)) Carry (ofCounts r) ⌝ }
     {
-        let _ = order.stripes();
         self.carry_stripe()
     }
 
@@ -135,16 +146,15 @@ impl<F: Field, R: Rack> Pool<F, R> {
         }
     }
 
-    /// Makes a list of calls of the pool, one after another, and tells what each answers. Only where memory for the answers
-    /// cannot be had is no call made.
-    pub fn replay(&mut self, heap: Global, calls: &[Call]) -> Result<Vec<Answer>, AllocError>
-        ensures plays { λ r. ⌜ made r (λ v. Replays (F·Field .arithmetic) (R·Rack .valid) (R·Rack .meaning) (now (self .entry)) (now (self .exit)) (now (calls .entry)) (vec-items v)) ⌝ }
-        ensures none { λ r. ⌜ refused r (λ _. now (self .exit) ≡ now (self .entry)) ⌝ }
+    /// Makes a list of calls of the pool, one after another, and writes what each answers into `told`. Where the list is longer
+    /// than `told`, the calls that there is no room for are not made; where it is shorter, the rest of `told` stays.
+    pub fn replay(&mut self, calls: &[Call], told: &mut [Answer])
+        ensures plays { λ _. ⌜ Replays (F·Field .arithmetic) (R·Rack .valid) (R·Rack .meaning) (now (self .entry)) (now (self .exit)) (take (length (now (told .entry))) (now (calls .entry))) (take (length (now (calls .entry))) (now (told .exit))) ⌝ }
+        ensures rest { λ _. ⌜ drop (length (now (calls .entry))) (now (told .exit)) ≡ drop (length (now (calls .entry))) (now (told .entry)) ⌝ }
+        ensures long { λ _. ⌜ length (now (told .exit)) ≡ length (now (told .entry)) ⌝ }
     {
-        let mut told = Vec::with_capacity(heap, calls.len())?;
-        for call in calls {
-            told.push_reserved(self.perform(*call));
+        for i in 0..room_for(calls, told) {
+            told[i] = self.perform(calls[i]);
         }
-        Ok(told)
     }
 }

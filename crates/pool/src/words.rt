@@ -74,7 +74,7 @@ impl<F: Field, R: Rack> Pool<F, R> {
         self.find_word(chunk, cell, offset)
     }
 
-    /// Whether a chunk is in a row that is staged already.
+    /// Whether the changeover is under way and the chunk's stripe is carried.
     fn is_staged(&self, chunk: u16) -> bool
         ensures { λ r. ⌜ r ≡ stages (now (self .entry) .phase) (now (self .entry) .carried) (schemeOf (now (self .entry) .plan)) chunk ⌝ }
     {
