@@ -21,6 +21,7 @@ ghost use Rattle.std.specs.declared.option.Option.the-variants.{None};
 ghost use Rattle.rack.specs.Meaning.{holds, stored};
 use crate::kinds::Phase;
 use crate::load::Load;
+use crate::orders::Order;
 use crate::pool::Pool;
 use crate::refuse::changeover_voided;
 use crate::refuse::wrong_count;
@@ -263,5 +264,14 @@ impl<F: Field, R: Rack> Pool<F, R> {
         carry_all(&self.field, &mut self.rack, &load);
         self.carried += 1;
         Ok(counts_of(&load))
+    }
+
+    /// Carries the next stripe of the changeover that the order holds: what it adds goes into the staged parities of the rows.
+    /// Answers how many data chunks and how many parity chunks were read. Refused before and after the changeover, where it is
+    /// voided, and where all stripes are carried.
+    pub fn carry(&mut self, _order: &Order) -> Result<(u16, u16), Refusal>
+        ensures { λ r. ⌜ Obeys (F·Field .arithmetic) (R·Rack .valid) (R·Rack .meaning) (now (self .entry)) (now (self .exit)) Carry (ofCounts r) ⌝ }
+    {
+        self.carry_stripe()
     }
 }

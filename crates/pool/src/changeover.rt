@@ -77,7 +77,8 @@ impl<F: Field, R: Rack> Pool<F, R> {
         }
     }
 
-    /// Begins the changeover: the staged parities of all rows are 0, and no stripe is carried. It wants every module fitted.
+    /// Begins the changeover: the staged parities of all rows are 0, and no stripe is carried. Refused where a changeover is under
+    /// way, voided or done, and where one of the modules is out.
     pub fn begin(&mut self) -> Result<Order, Refusal>
         ensures book { λ r. ⌜ Obeys (F·Field .arithmetic) (R·Rack .valid) (R·Rack .meaning) (now (self .entry)) (now (self .exit)) Begin (ofDone r) ⌝ }
         ensures number { λ r. ⌜ made r (λ o. o .stripes ≡ stripesOf (now (self .entry) .plan .d) (now (self .entry) .plan .d2)) ⌝ }
@@ -101,7 +102,8 @@ impl<F: Field, R: Rack> Pool<F, R> {
         Ok(Order::of(stripes))
     }
 
-    /// Makes the changeover ready to be closed, once every stripe is carried. A refusal hands the order back.
+    /// Makes the changeover ready to be closed. Refused where none is under way, where it is voided, and where not every stripe is
+    /// carried; a refusal hands the order back.
     pub fn ready(&self, order: Order) -> Result<ReadyOrder, (Order, Refusal)>
         ensures book { λ r. ⌜ Obeys (F·Field .arithmetic) (R·Rack .valid) (R·Rack .meaning) (now (self .entry)) (now (self .entry)) Ready (ofOrder r) ⌝ }
         ensures back { λ r. ⌜ refused r (λ e. e .0 ≡ order) ⌝ }
@@ -113,7 +115,8 @@ impl<F: Field, R: Rack> Pool<F, R> {
         Ok(ReadyOrder::of(order.spend()))
     }
 
-    /// Closes the changeover: from here on the parities of the rows are those that count. A refusal hands the order back.
+    /// Closes the changeover: from here on the parities of the rows are those that count. Refused where `ready` is; a refusal
+    /// hands the order back.
     pub fn close(&mut self, order: ReadyOrder) -> Result<(), (ReadyOrder, Refusal)>
         ensures book { λ r. ⌜ Obeys (F·Field .arithmetic) (R·Rack .valid) (R·Rack .meaning) (now (self .entry)) (now (self .exit)) Close (ofOrder r) ⌝ }
         ensures back { λ r. ⌜ refused r (λ e. e .0 ≡ order) ⌝ }

@@ -24,7 +24,8 @@ fn pulled(phase: Phase) -> Phase
 }
 
 impl<F: Field, R: Rack> Pool<F, R> {
-    /// Takes a module out. A changeover that is under way is voided by it.
+    /// Takes a module out. A changeover that is under way is voided by it. Refused where there is no such module, and where it is
+    /// out already.
     pub fn pull(&mut self, module: u16) -> Result<(), Refusal>
         ensures { λ r. ⌜ Obeys (F·Field .arithmetic) (R·Rack .valid) (R·Rack .meaning) (now (self .entry)) (now (self .exit)) (Pull «module») (ofDone r) ⌝ }
     {

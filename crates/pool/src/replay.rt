@@ -61,14 +61,6 @@ fn room_for(calls: &[Call], told: &[Answer]) -> usize
 }
 
 impl<F: Field, R: Rack> Pool<F, R> {
-    /// Carries the next stripe of the changeover that the order holds: what it adds goes into the staged parities of the rows.
-    /// Answers how many data chunks and how many parity chunks were read.
-    pub fn carry(&mut self, _order: &Order) -> Result<(u16, u16), Refusal>
-        ensures { λ r. ⌜ Obeys (F·Field .arithmetic) (R·Rack .valid) (R·Rack .meaning) (now (self .entry)) (now (self .exit)) Carry (ofCounts r) ⌝ }
-    {
-        self.carry_stripe()
-    }
-
     /// Begins the changeover, and ends its order.
     fn begin_told(&mut self) -> Answer
         ensures { λ r. ⌜ Obeys (F·Field .arithmetic) (R·Rack .valid) (R·Rack .meaning) (now (self .entry)) (now (self .exit)) Begin r ⌝ }
