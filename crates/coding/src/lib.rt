@@ -1,4 +1,6 @@
 //! Groups of chunks with parities, and how what is lost of them is rebuilt.
+#![tactic(auto)]
+
 pub mod group;
 pub mod parity;
 pub mod prepare;

@@ -1,4 +1,6 @@
 //! Finite fields over codes of 16 bits, sums in them, and small systems of equations over them.
+#![tactic(auto)]
+
 mod binary;
 mod elimination;
 mod posed;

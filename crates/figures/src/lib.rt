@@ -1,4 +1,6 @@
 //! The worked figures, shown from the rules.
+#![tactic(auto)]
+
 ghost use Rattle.figures.specs.Figures.{Figures, WorkedPools};
 ghost use Rattle.std.specs.Prelude.{◌≡◌};
 

@@ -1,4 +1,6 @@
 //! The layout of a retain pool: plans, where their chunks and parities lie, what a changeover reads, labels.
+#![tactic(auto)]
+
 mod export;
 pub mod label;
 mod make;

@@ -1,4 +1,6 @@
 //! Plays a script of commands: what is printed for each line.
+#![tactic(auto)]
+
 mod answer;
 mod lines;
 mod play;

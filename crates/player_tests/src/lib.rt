@@ -1,4 +1,5 @@
 //! What the player answers to scripts that are not as they should be.
+#![tactic(auto)]
 
 #[cfg(test)]
 mod tests {

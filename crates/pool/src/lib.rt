@@ -1,4 +1,6 @@
 //! The retain pool.
+#![tactic(auto)]
+
 mod adding;
 pub mod carry;
 pub mod changeover;

@@ -1,6 +1,7 @@
 //! A memory of symbols that lies in modules, slots and offsets, and whose modules can be pulled and fitted.
 //! No call asks anything of its caller. What a call answers and leaves is said of a rack that is valid,
 //! which it is from its making on.
+#![tactic(auto)]
 
 mod cells;
 pub mod clear;

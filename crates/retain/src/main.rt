@@ -1,4 +1,6 @@
 //! Plays a script of commands and prints what each answers.
+#![tactic(auto)]
+
 mod answer;
 mod bench;
 mod script;

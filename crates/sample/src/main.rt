@@ -1,4 +1,6 @@
 //! Plays the stored sample of random scripts, as the program `retain` plays its own script.
+#![tactic(auto)]
+
 use player::transcript::transcript;
 use std::io;
 use std::io::{Read, Write};
