@@ -9,7 +9,7 @@ use field::{Field, coefficient, sum_of_products};
 /// The coefficient of chunk `e` of the group in parity `k`; zero where the group has no such chunk.
 fn weight<F: Field>(field: &F, group: &Group, k: u8, e: usize) -> u16
     requires { e < 14 }
-    ensures { result ≡ (if nat_lt e group.now.size then coefficient (arithmetic field.now) k (slice_index group.now.xs e) else 0) }
+    ensures { result ≡ (if nat_lt e group.now.size then coefficient (F.arithmetic field.now) k (slice_index group.now.xs e) else 0) }
 {
     if e < group.size as usize {
         coefficient(field, k, group.xs[e])
@@ -20,7 +20,7 @@ fn weight<F: Field>(field: &F, group: &Group, k: u8, e: usize) -> u16
 
 /// The coefficients of the group's chunks in parity `k`, and zeros after them.
 pub fn weights<F: Field>(field: &F, group: &Group, k: u8) -> [u16; 14]
-    ensures { Weights (arithmetic field.now) group.now k result }
+    ensures { Weights (F.arithmetic field.now) group.now k result }
 {
     let mut out = [0; 14];
     for e in 0..14 {
@@ -31,16 +31,16 @@ pub fn weights<F: Field>(field: &F, group: &Group, k: u8) -> [u16; 14]
 
 /// The sum of the products of two arrays, place by place.
 pub(crate) fn products<F: Field, const N: usize>(field: &F, a: [u16; N], b: [u16; N]) -> u16
-    ensures is { result ≡ total (arithmetic field.now) N (λ e. (arithmetic field.now).mul (slice_index a.entry e) (slice_index b.entry e)) }
-    ensures below { result < (arithmetic field.now).order }
+    ensures is { result ≡ total (F.arithmetic field.now) N (λ e. (F.arithmetic field.now).mul (slice_index a.entry e) (slice_index b.entry e)) }
+    ensures below { result < (F.arithmetic field.now).order }
 {
     sum_of_products(field, &a, &b)
 }
 
 /// Parity `k` of the group, whose chunks, in their order, have these symbols.
 pub fn parity_of<F: Field>(field: &F, group: &Group, k: u8, chunks: [u16; 14]) -> u16
-    ensures is { ParityOf (arithmetic field.now) group.now k chunks result }
-    ensures below { result < (arithmetic field.now).order }
+    ensures is { ParityOf (F.arithmetic field.now) group.now k chunks result }
+    ensures below { result < (F.arithmetic field.now).order }
 {
     products(field, weights(field, group, k), chunks)
 }

@@ -107,7 +107,7 @@ fn sources_of(group: &Group, parities: [u8; 4]) -> [u16; 4]
 /// The coefficients of the group's chunks in the first `n` of the parities.
 fn rows_of<F: Field>(field: &F, group: &Group, n: usize, parities: [u8; 4]) -> [[u16; 14]; 4]
     requires { n ≤ 4 }
-    ensures { (j : ℕ) → j < n → Weights (arithmetic field.now) group.now (slice_index parities j) (slice_index_or result j []) }
+    ensures { (j : ℕ) → j < n → Weights (F.arithmetic field.now) group.now (slice_index parities j) (slice_index_or result j []) }
 {
     let mut rows = [[0; 14]; 4];
     for j in 0..n {
@@ -118,7 +118,7 @@ fn rows_of<F: Field>(field: &F, group: &Group, n: usize, parities: [u8; 4]) -> [
 
 /// The inverse of the coefficients of the first `n` of the columns in the first `n` of the parities; zeros where there is none.
 fn inverse_of<F: Field>(field: &F, n: usize, parities: [u8; 4], columns: [u8; 4]) -> [[u16; 4]; 4]
-    ensures { Posed (arithmetic field.now) n parities columns → Inverse (arithmetic field.now) n parities columns result }
+    ensures { Posed (F.arithmetic field.now) n parities columns → Inverse (F.arithmetic field.now) n parities columns result }
 {
     match invert(field, n, parities, columns) {
         Some(inverse) => inverse,
@@ -146,8 +146,8 @@ pub fn prepare<F: Field>(
     index: u16,
     out: [bool; 32],
 ) -> Result<Repair, Refusal>
-    ensures prepared { Prepared plan.now (arithmetic field.now) kind index out result }
-    ensures one_word { (arithmetic field.now).order ≡ plan.now.order → OneWord (arithmetic field.now) (scheme_of plan.now) }
+    ensures prepared { Prepared plan.now (F.arithmetic field.now) kind index out result }
+    ensures one_word { (F.arithmetic field.now).order ≡ plan.now.order → OneWord (F.arithmetic field.now) (scheme_of plan.now) }
 {
     let Some(group) = Group::of(plan, kind, index) else {
         return Err(too_many(index));

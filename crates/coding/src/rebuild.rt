@@ -10,7 +10,7 @@ use rack::rack::Rack;
 
 /// The symbol at a place; 0 where there is none.
 fn symbol<R: Rack>(rack: &R, module: u16, slot: u16, offset: u16) -> u16
-    ensures { valid rack.now → result ≡ (meaning rack.now).symbol «module» slot offset }
+    ensures { R.valid rack.now → result ≡ (R.meaning rack.now).symbol «module» slot offset }
 {
     rack.get(module, slot, offset).unwrap_or(0)
 }
@@ -19,7 +19,7 @@ impl Repair {
     /// The symbol of chunk `e`; zero where it is missing, and where the group has no such chunk.
     fn known_at<R: Rack>(&self, rack: &R, offset: u16, e: usize) -> u16
         requires { e < 14 }
-        ensures { valid rack.now → result ≡ (if nat_lt e self.now.group.size && not (flags self.now.gone e) then (meaning rack.now).symbol (slice_index self.now.group.modules e) (slice_index self.now.group.slots e) offset else 0) }
+        ensures { R.valid rack.now → result ≡ (if nat_lt e self.now.group.size && not (flags self.now.gone e) then (R.meaning rack.now).symbol (slice_index self.now.group.modules e) (slice_index self.now.group.slots e) offset else 0) }
     {
         if e < self.group.size as usize && !self.gone[e] {
             symbol(rack, self.group.modules[e], self.group.slots[e], offset)
@@ -30,7 +30,7 @@ impl Repair {
 
     /// The symbols of the chunks that are left, and zeros in the other places.
     fn known<R: Rack>(&self, rack: &R, offset: u16) -> [u16; 14]
-        ensures { valid rack.now → Known self.now (meaning rack.now) offset result }
+        ensures { R.valid rack.now → Known self.now (R.meaning rack.now) offset result }
     {
         let mut a = [0; 14];
         for e in 0..14 {
@@ -47,7 +47,7 @@ impl Repair {
         offset: u16,
         known: [u16; 14],
     ) -> [u16; 4]
-        ensures { valid rack.now → Sides (arithmetic field.now) self.now (meaning rack.now) offset known result }
+        ensures { R.valid rack.now → Sides (F.arithmetic field.now) self.now (R.meaning rack.now) offset known result }
     {
         let mut sides = [0; 4];
         for j in 0..self.count {
@@ -59,7 +59,7 @@ impl Repair {
 
     /// The symbols of the missing chunks.
     fn unknowns<F: Field>(&self, field: &F, sides: [u16; 4]) -> [u16; 4]
-        ensures { Unknowns (arithmetic field.now) self.now sides result }
+        ensures { Unknowns (F.arithmetic field.now) self.now sides result }
     {
         let mut unknowns = [0; 4];
         for j in 0..self.count {
@@ -82,7 +82,7 @@ impl Repair {
     /// The symbols of the group's chunks at an offset, in their order, and zeros after them: those that are left as the rack has
     /// them, and those that are missing from the equations of the parities. Each symbol is fetched once.
     pub fn chunks_at<F: Field, R: Rack>(&self, field: &F, rack: &R, offset: u16) -> [u16; 14]
-        ensures { valid rack.now → (meaning rack.now).order ≡ (arithmetic field.now).order → Answers (arithmetic field.now) self.now (meaning rack.now) offset result }
+        ensures { R.valid rack.now → (R.meaning rack.now).order ≡ (F.arithmetic field.now).order → Answers (F.arithmetic field.now) self.now (R.meaning rack.now) offset result }
     {
         let known = self.known(rack, offset);
         let sides = self.sides(field, rack, offset, known);

@@ -7,7 +7,7 @@ use crate::Field;
 
 /// The row times a number.
 fn scaled<F: Field>(field: &F, row: [u16; 4], by: u16) -> [u16; 4]
-    ensures { Scaled (arithmetic field.now) by row result }
+    ensures { Scaled (F.arithmetic field.now) by row result }
 {
     let mut out = [0; 4];
     for j in 0..4 {
@@ -18,7 +18,7 @@ fn scaled<F: Field>(field: &F, row: [u16; 4], by: u16) -> [u16; 4]
 
 /// The row less a number times the row `top`.
 fn reduced<F: Field>(field: &F, row: [u16; 4], top: [u16; 4], by: u16) -> [u16; 4]
-    ensures { Reduced (arithmetic field.now) by row top result }
+    ensures { Reduced (F.arithmetic field.now) by row top result }
 {
     let mut out = [0; 4];
     for j in 0..4 {
@@ -35,11 +35,11 @@ pub(crate) fn eliminate<F: Field>(
     column: usize,
 ) -> ([[u16; 4]; 4], [u16; 4])
     requires within { column < 4 }
-    requires grid { Grid (arithmetic field.now) a }
-    requires codes { Codes (arithmetic field.now) 4 b }
+    requires grid { Grid (F.arithmetic field.now) a }
+    requires codes { Codes (F.arithmetic field.now) 4 b }
     requires pivot { at a column column ≢ 0 }
-    ensures step { Stepped (arithmetic field.now) column a b result.0 result.1 }
-    ensures same { (n : ℕ) → n ≤ 4 → column < n → Same (arithmetic field.now) n a b result.0 result.1 }
+    ensures step { Stepped (F.arithmetic field.now) column a b result.0 result.1 }
+    ensures same { (n : ℕ) → n ≤ 4 → column < n → Same (F.arithmetic field.now) n a b result.0 result.1 }
 {
     let by = field.inv(a[column][column]);
     let top = scaled(field, a[column], by);

@@ -39,7 +39,7 @@ fn distinct_below(xs: &[u8], limit: u16) -> bool
 /// Whether each of the first `n` of the sides is a code of the field.
 pub(crate) fn all_codes<F: Field>(field: &F, n: usize, sides: [u16; 4]) -> bool
     requires { n ≤ 4 }
-    ensures { Decides result (Codes (arithmetic field.now) n sides) }
+    ensures { Decides result (Codes (F.arithmetic field.now) n sides) }
 {
     let order = field.order();
     for i in 0..n {
@@ -52,7 +52,7 @@ pub(crate) fn all_codes<F: Field>(field: &F, n: usize, sides: [u16; 4]) -> bool
 
 /// Whether the first `n` of the parities `ks` and of the chunks `xs` give a system.
 pub(crate) fn posed<F: Field>(field: &F, n: usize, ks: [u8; 4], xs: [u8; 4]) -> bool
-    ensures { Decides result (Posed (arithmetic field.now) n ks xs) }
+    ensures { Decides result (Posed (F.arithmetic field.now) n ks xs) }
 {
     if n > 4 {
         return false;

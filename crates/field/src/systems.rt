@@ -10,7 +10,7 @@ use crate::{Field, coefficient};
 /// The coefficients of the first `n` of the chunks `xs` in parity `k`, and zeros after them.
 fn weights<F: Field>(field: &F, n: usize, k: u8, xs: [u8; 4]) -> [u16; 4]
     requires { n ≤ 4 }
-    ensures { Weights (arithmetic field.now) n k xs result }
+    ensures { Weights (F.arithmetic field.now) n k xs result }
 {
     let mut out = [0; 4];
     for j in 0..n {
@@ -22,7 +22,7 @@ fn weights<F: Field>(field: &F, n: usize, k: u8, xs: [u8; 4]) -> [u16; 4]
 /// The coefficients of the first `n` of the chunks `xs` in the first `n` of the parities `ks`, and zeros around them.
 fn coefficients<F: Field>(field: &F, n: usize, ks: [u8; 4], xs: [u8; 4]) -> [[u16; 4]; 4]
     requires { n ≤ 4 }
-    ensures { Coefficients (arithmetic field.now) n ks xs result }
+    ensures { Coefficients (F.arithmetic field.now) n ks xs result }
 {
     let mut a = [[0; 4]; 4];
     for i in 0..n {
@@ -45,9 +45,9 @@ fn first(n: usize, sides: [u16; 4]) -> [u16; 4]
 
 /// The one solution of a system of `n` equations.
 fn solution<F: Field>(field: &F, n: usize, ks: [u8; 4], xs: [u8; 4], sides: [u16; 4]) -> [u16; 4]
-    requires posed { Posed (arithmetic field.now) n ks xs }
-    requires codes { Codes (arithmetic field.now) n sides }
-    ensures { Solution (arithmetic field.now) n ks xs sides result }
+    requires posed { Posed (F.arithmetic field.now) n ks xs }
+    requires codes { Codes (F.arithmetic field.now) n sides }
+    ensures { Solution (F.arithmetic field.now) n ks xs sides result }
 {
     let mut a = coefficients(field, n, ks, xs);
     let mut b = first(n, sides);
@@ -66,7 +66,7 @@ pub fn solve<F: Field>(
     xs: [u8; 4],
     sides: [u16; 4],
 ) -> Option<[u16; 4]>
-    ensures { MatchOption result ((Posed (arithmetic field.now) n ks xs × Codes (arithmetic field.now) n sides) → ⊥) (λ u. Posed (arithmetic field.now) n ks xs × Codes (arithmetic field.now) n sides × Solution (arithmetic field.now) n ks xs sides u) }
+    ensures { MatchOption result ((Posed (F.arithmetic field.now) n ks xs × Codes (F.arithmetic field.now) n sides) → ⊥) (λ u. Posed (F.arithmetic field.now) n ks xs × Codes (F.arithmetic field.now) n sides × Solution (F.arithmetic field.now) n ks xs sides u) }
 {
     if !posed(field, n, ks, xs) {
         return None;
@@ -89,8 +89,8 @@ fn unit_sides(k: usize) -> [u16; 4]
 
 /// Row k is the solution for the sides that are one at k and zero elsewhere.
 fn unit_solutions<F: Field>(field: &F, n: usize, ks: [u8; 4], xs: [u8; 4]) -> [[u16; 4]; 4]
-    requires { Posed (arithmetic field.now) n ks xs }
-    ensures { Units (arithmetic field.now) n ks xs result }
+    requires { Posed (F.arithmetic field.now) n ks xs }
+    ensures { Units (F.arithmetic field.now) n ks xs result }
 {
     let mut rows = [[0; 4]; 4];
     for k in 0..n {
@@ -124,8 +124,8 @@ fn transposed(m: [[u16; 4]; 4]) -> [[u16; 4]; 4]
 
 /// The matrix whose row j gives unknown j of a system of `n` equations: the sum of its products with the sides, place by place.
 fn inverse<F: Field>(field: &F, n: usize, ks: [u8; 4], xs: [u8; 4]) -> [[u16; 4]; 4]
-    requires { Posed (arithmetic field.now) n ks xs }
-    ensures { Inverse (arithmetic field.now) n ks xs result }
+    requires { Posed (F.arithmetic field.now) n ks xs }
+    ensures { Inverse (F.arithmetic field.now) n ks xs result }
 {
     transposed(unit_solutions(field, n, ks, xs))
 }
@@ -133,7 +133,7 @@ fn inverse<F: Field>(field: &F, n: usize, ks: [u8; 4], xs: [u8; 4]) -> [[u16; 4]
 /// The matrix whose row j gives unknown j of the `n` equations: the sum of its products with the sides, place by place.
 /// There is none to give where the parities and chunks give no system.
 pub fn invert<F: Field>(field: &F, n: usize, ks: [u8; 4], xs: [u8; 4]) -> Option<[[u16; 4]; 4]>
-    ensures { MatchOption result (Posed (arithmetic field.now) n ks xs → ⊥) (λ w. Posed (arithmetic field.now) n ks xs × Inverse (arithmetic field.now) n ks xs w) }
+    ensures { MatchOption result (Posed (F.arithmetic field.now) n ks xs → ⊥) (λ w. Posed (F.arithmetic field.now) n ks xs × Inverse (F.arithmetic field.now) n ks xs w) }
 {
     if !posed(field, n, ks, xs) {
         return None;

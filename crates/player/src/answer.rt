@@ -100,7 +100,7 @@ fn respond<R: Rack>(
     rack: &mut Option<R>,
     command: Command,
 ) -> Result<Response, AllocError>
-    ensures { Ready R.Rack.valid rack.old → IfOk result (λ a. Responds (state plan (alone (option_map R.Rack.meaning rack.old))) command (state a.plan (memory_by a.request (alone (option_map R.Rack.meaning rack.new)))) (string_bytes a.text) × Ready R.Rack.valid rack.new × Possible a.request (option_map R.Rack.meaning rack.new)) }
+    ensures { Ready R.valid rack.old → IfOk result (λ a. Responds (state plan (alone (option_map R.meaning rack.old))) command (state a.plan (memory_by a.request (alone (option_map R.meaning rack.new)))) (string_bytes a.text) × Ready R.valid rack.new × Possible a.request (option_map R.meaning rack.new)) }
 {
     match command {
         Command::Plan(order, d, r, d2, r2, len) => {
@@ -142,7 +142,7 @@ pub fn answer<R: Rack>(
     rack: &mut Option<R>,
     line: &[u8],
 ) -> Result<Response, AllocError>
-    ensures { Ready R.Rack.valid rack.old → IfOk result (λ a. Answers (state plan (alone (option_map R.Rack.meaning rack.old))) line.now (state a.plan (memory_by a.request (alone (option_map R.Rack.meaning rack.new)))) (string_bytes a.text) × Ready R.Rack.valid rack.new × Possible a.request (option_map R.Rack.meaning rack.new)) }
+    ensures { Ready R.valid rack.old → IfOk result (λ a. Answers (state plan (alone (option_map R.meaning rack.old))) line.now (state a.plan (memory_by a.request (alone (option_map R.meaning rack.new)))) (string_bytes a.text) × Ready R.valid rack.new × Possible a.request (option_map R.meaning rack.new)) }
 {
     match parse(line) {
         Some(command) => Ok(respond(heap, plan, rack, command)?),
@@ -158,7 +158,7 @@ fn respond_pooled<F: Field, R: Rack>(
     command: Command,
 ) -> Result<Response, AllocError>
     requires { call_in (Some command) ≡ None }
-    ensures { R.Rack.valid pool.now.rack → IfOk result (λ a. Responds (state plan (within F.Field.arithmetic R.Rack.valid R.Rack.meaning pool.now)) command (state a.plan (memory_by a.request (within F.Field.arithmetic R.Rack.valid R.Rack.meaning pool.now))) (string_bytes a.text) × Possible a.request (Some (R.Rack.meaning pool.now.rack))) }
+    ensures { R.valid pool.now.rack → IfOk result (λ a. Responds (state plan (within F.arithmetic R.valid R.meaning pool.now)) command (state a.plan (memory_by a.request (within F.arithmetic R.valid R.meaning pool.now))) (string_bytes a.text) × Possible a.request (Some (R.meaning pool.now.rack))) }
 {
     match command {
         Command::Plan(order, d, r, d2, r2, len) => {
@@ -194,7 +194,7 @@ pub fn answer_pooled<F: Field, R: Rack>(
     command: Option<Command>,
 ) -> Result<Response, AllocError>
     requires { call_in command ≡ None }
-    ensures { R.Rack.valid pool.now.rack → IfOk result (λ a. ((line : List ℕ) → Understood line command → Answers (state plan (within F.Field.arithmetic R.Rack.valid R.Rack.meaning pool.now)) line (state a.plan (memory_by a.request (within F.Field.arithmetic R.Rack.valid R.Rack.meaning pool.now))) (string_bytes a.text)) × Possible a.request (Some (R.Rack.meaning pool.now.rack))) }
+    ensures { R.valid pool.now.rack → IfOk result (λ a. ((line : List ℕ) → Understood line command → Answers (state plan (within F.arithmetic R.valid R.meaning pool.now)) line (state a.plan (memory_by a.request (within F.arithmetic R.valid R.meaning pool.now))) (string_bytes a.text)) × Possible a.request (Some (R.meaning pool.now.rack))) }
 {
     match command {
         Some(command) => Ok(respond_pooled(heap, plan, pool, command)?),

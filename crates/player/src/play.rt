@@ -30,8 +30,8 @@ fn play_alone<R: Rack + Drop>(
     from: usize,
 ) -> Result<(Option<R>, Stop), AllocError>
     requires inside { from ≤ length script.now }
-    requires valid { Ready R.Rack.valid rack }
-    ensures { IfOk result (λ s. Ready R.Rack.valid s.0 × Possible s.1.request (option_map R.Rack.meaning s.0) × Ends s.1.request from s.1.played script.now × Goes (state plan (alone (option_map R.Rack.meaning rack))) (lines (drop from script.now)) out.old.items (state s.1.plan (memory_by s.1.request (alone (option_map R.Rack.meaning s.0)))) (lines (drop s.1.played script.now)) out.new.items) }
+    requires valid { Ready R.valid rack }
+    ensures { IfOk result (λ s. Ready R.valid s.0 × Possible s.1.request (option_map R.meaning s.0) × Ends s.1.request from s.1.played script.now × Goes (state plan (alone (option_map R.meaning rack))) (lines (drop from script.now)) out.old.items (state s.1.plan (memory_by s.1.request (alone (option_map R.meaning s.0)))) (lines (drop s.1.played script.now)) out.new.items) }
 {
     let mut plan = plan;
     let mut rack = rack;
@@ -80,8 +80,8 @@ fn play_turn<F: Field, R: Rack>(
     from: usize,
 ) -> Result<Stop, AllocError>
     requires inside { from ≤ length script.now }
-    requires held { Held F.Field.arithmetic R.Rack.valid R.Rack.meaning pool.old }
-    ensures { IfOk result (λ s. Held F.Field.arithmetic R.Rack.valid R.Rack.meaning pool.new × Possible s.request (Some (R.Rack.meaning pool.new.rack)) × Turned from s.played script.now × Goes (state plan (within F.Field.arithmetic R.Rack.valid R.Rack.meaning pool.old)) (lines (drop from script.now)) out.old.items (state s.plan (memory_by s.request (within F.Field.arithmetic R.Rack.valid R.Rack.meaning pool.new))) (lines (drop s.played script.now)) out.new.items) }
+    requires held { Held F.arithmetic R.valid R.meaning pool.old }
+    ensures { IfOk result (λ s. Held F.arithmetic R.valid R.meaning pool.new × Possible s.request (Some (R.meaning pool.new.rack)) × Turned from s.played script.now × Goes (state plan (within F.arithmetic R.valid R.meaning pool.old)) (lines (drop from script.now)) out.old.items (state s.plan (memory_by s.request (within F.arithmetic R.valid R.meaning pool.new))) (lines (drop s.played script.now)) out.new.items) }
 {
     let Pause { end, next } = play_row(heap, out, pool, script, from)?;
     if end >= script.len() {
@@ -116,8 +116,8 @@ fn play_pooled<F: Field + Drop, R: Rack + Drop>(
     from: usize,
 ) -> Result<(R, Stop), AllocError>
     requires inside { from ≤ length script.now }
-    requires held { Held F.Field.arithmetic R.Rack.valid R.Rack.meaning pool }
-    ensures { IfOk result (λ s. Left R.Rack.valid R.Rack.meaning s.0 s.1.request × Ends s.1.request from s.1.played script.now × Goes (state plan (within F.Field.arithmetic R.Rack.valid R.Rack.meaning pool)) (lines (drop from script.now)) out.old.items (state s.1.plan (memory_by s.1.request (bare (R.Rack.meaning s.0)))) (lines (drop s.1.played script.now)) out.new.items) }
+    requires held { Held F.arithmetic R.valid R.meaning pool }
+    ensures { IfOk result (λ s. Left R.valid R.meaning s.0 s.1.request × Ends s.1.request from s.1.played script.now × Goes (state plan (within F.arithmetic R.valid R.meaning pool)) (lines (drop from script.now)) out.old.items (state s.1.plan (memory_by s.1.request (bare (R.meaning s.0)))) (lines (drop s.1.played script.now)) out.new.items) }
 {
     let mut pool = pool;
     let mut stop = Stop {
@@ -143,9 +143,9 @@ fn play_laid<F: Field + Drop, R: Rack + Drop>(
     from: usize,
 ) -> Result<(R, Stop), AllocError>
     requires inside { from ≤ length script.now }
-    requires valid { R.Rack.valid rack }
-    requires fits { lay_refusal by (F.Field.arithmetic field).order (R.Rack.meaning rack) ≡ None }
-    ensures { IfOk result (λ s. Left R.Rack.valid R.Rack.meaning s.0 s.1.request × Ends s.1.request from s.1.played script.now × Goes (state plan (pooled (F.Field.arithmetic field) by (laid_over by (R.Rack.meaning rack)))) (lines (drop from script.now)) out.old.items (state s.1.plan (memory_by s.1.request (bare (R.Rack.meaning s.0)))) (lines (drop s.1.played script.now)) out.new.items) }
+    requires valid { R.valid rack }
+    requires fits { lay_refusal by (F.arithmetic field).order (R.meaning rack) ≡ None }
+    ensures { IfOk result (λ s. Left R.valid R.meaning s.0 s.1.request × Ends s.1.request from s.1.played script.now × Goes (state plan (pooled (F.arithmetic field) by (laid_over by (R.meaning rack)))) (lines (drop from script.now)) out.old.items (state s.1.plan (memory_by s.1.request (bare (R.meaning s.0)))) (lines (drop s.1.played script.now)) out.new.items) }
 {
     let Row {
         calls,
@@ -171,9 +171,9 @@ fn play_opened<F: Field + Drop, R: Rack + Drop>(
     from: usize,
 ) -> Result<(R, Stop), AllocError>
     requires inside { from ≤ length script.now }
-    requires valid { R.Rack.valid rack }
-    requires fits { fit_refusal label.plan (F.Field.arithmetic field).order (R.Rack.meaning rack) ≡ None }
-    ensures { IfOk result (λ s. Left R.Rack.valid R.Rack.meaning s.0 s.1.request × Ends s.1.request from s.1.played script.now × Goes (state plan (pooled (F.Field.arithmetic field) label.plan (opened_over label (R.Rack.meaning rack)))) (lines (drop from script.now)) out.old.items (state s.1.plan (memory_by s.1.request (bare (R.Rack.meaning s.0)))) (lines (drop s.1.played script.now)) out.new.items) }
+    requires valid { R.valid rack }
+    requires fits { fit_refusal label.plan (F.arithmetic field).order (R.meaning rack) ≡ None }
+    ensures { IfOk result (λ s. Left R.valid R.meaning s.0 s.1.request × Ends s.1.request from s.1.played script.now × Goes (state plan (pooled (F.arithmetic field) label.plan (opened_over label (R.meaning rack)))) (lines (drop from script.now)) out.old.items (state s.1.plan (memory_by s.1.request (bare (R.meaning s.0)))) (lines (drop s.1.played script.now)) out.new.items) }
 {
     let pool = Pool::open(label, field, rack);
     play_pooled(heap, out, plan, pool, script, from)
@@ -191,9 +191,9 @@ fn play_lay<R: Rack + Drop>(
     from: usize,
 ) -> Result<(R, Stop), AllocError>
     requires inside { from ≤ length script.now }
-    requires valid { R.Rack.valid rack }
-    requires fits { Startable (Start.Lay field by) (R.Rack.meaning rack) }
-    ensures { IfOk result (λ s. Left R.Rack.valid R.Rack.meaning s.0 s.1.request × Ends s.1.request from s.1.played script.now × Goes (state plan (started (Start.Lay field by) (R.Rack.meaning rack))) (lines (drop from script.now)) out.old.items (state s.1.plan (memory_by s.1.request (bare (R.Rack.meaning s.0)))) (lines (drop s.1.played script.now)) out.new.items) }
+    requires valid { R.valid rack }
+    requires fits { Startable (Start.Lay field by) (R.meaning rack) }
+    ensures { IfOk result (λ s. Left R.valid R.meaning s.0 s.1.request × Ends s.1.request from s.1.played script.now × Goes (state plan (started (Start.Lay field by) (R.meaning rack))) (lines (drop from script.now)) out.old.items (state s.1.plan (memory_by s.1.request (bare (R.meaning s.0)))) (lines (drop s.1.played script.now)) out.new.items) }
 {
     match field {
         FieldKind::Byte => play_laid(heap, out, plan, by, ByteField, rack, script, from),
@@ -214,9 +214,9 @@ fn play_open<R: Rack + Drop>(
     from: usize,
 ) -> Result<(R, Stop), AllocError>
     requires inside { from ≤ length script.now }
-    requires valid { R.Rack.valid rack }
-    requires fits { Startable (Start.Open field label) (R.Rack.meaning rack) }
-    ensures { IfOk result (λ s. Left R.Rack.valid R.Rack.meaning s.0 s.1.request × Ends s.1.request from s.1.played script.now × Goes (state plan (started (Start.Open field label) (R.Rack.meaning rack))) (lines (drop from script.now)) out.old.items (state s.1.plan (memory_by s.1.request (bare (R.Rack.meaning s.0)))) (lines (drop s.1.played script.now)) out.new.items) }
+    requires valid { R.valid rack }
+    requires fits { Startable (Start.Open field label) (R.meaning rack) }
+    ensures { IfOk result (λ s. Left R.valid R.meaning s.0 s.1.request × Ends s.1.request from s.1.played script.now × Goes (state plan (started (Start.Open field label) (R.meaning rack))) (lines (drop from script.now)) out.old.items (state s.1.plan (memory_by s.1.request (bare (R.meaning s.0)))) (lines (drop s.1.played script.now)) out.new.items) }
 {
     match field {
         FieldKind::Byte => play_opened(heap, out, plan, label, ByteField, rack, script, from),
@@ -236,9 +236,9 @@ fn play_pool<R: Rack + Drop>(
     from: usize,
 ) -> Result<(R, Stop), AllocError>
     requires inside { from ≤ length script.now }
-    requires valid { R.Rack.valid rack }
-    requires fits { Startable (start) (R.Rack.meaning rack) }
-    ensures { IfOk result (λ s. Left R.Rack.valid R.Rack.meaning s.0 s.1.request × Ends s.1.request from s.1.played script.now × Goes (state plan (started (start) (R.Rack.meaning rack))) (lines (drop from script.now)) out.old.items (state s.1.plan (memory_by s.1.request (bare (R.Rack.meaning s.0)))) (lines (drop s.1.played script.now)) out.new.items) }
+    requires valid { R.valid rack }
+    requires fits { Startable (start) (R.meaning rack) }
+    ensures { IfOk result (λ s. Left R.valid R.meaning s.0 s.1.request × Ends s.1.request from s.1.played script.now × Goes (state plan (started (start) (R.meaning rack))) (lines (drop from script.now)) out.old.items (state s.1.plan (memory_by s.1.request (bare (R.meaning s.0)))) (lines (drop s.1.played script.now)) out.new.items) }
 {
     match start {
         Start::Lay(field, by) => play_lay(heap, out, plan, field, by, rack, script, from),
@@ -268,8 +268,8 @@ fn play_pools<R: Rack + Drop>(
     script: &[u8],
 ) -> Result<Stop, AllocError>
     requires inside { stop.played ≤ length script.now }
-    requires left { Left R.Rack.valid R.Rack.meaning rack stop.request }
-    ensures { IfOk result (λ s. Racks s.request × ((n : ℕ) → Ends stop.request n stop.played script.now → Ends s.request n s.played script.now × Goes (state stop.plan (memory_by stop.request (bare (R.Rack.meaning rack)))) (lines (drop stop.played script.now)) out.old.items (state s.plan (memory_by s.request nothing)) (lines (drop s.played script.now)) out.new.items)) }
+    requires left { Left R.valid R.meaning rack stop.request }
+    ensures { IfOk result (λ s. Racks s.request × ((n : ℕ) → Ends stop.request n stop.played script.now → Ends s.request n s.played script.now × Goes (state stop.plan (memory_by stop.request (bare (R.meaning rack)))) (lines (drop stop.played script.now)) out.old.items (state s.plan (memory_by s.request nothing)) (lines (drop s.played script.now)) out.new.items)) }
 {
     let mut rack = rack;
     let mut stop = stop;
@@ -289,8 +289,8 @@ pub fn play<R: Rack + Drop>(
     from: usize,
 ) -> Result<Stop, AllocError>
     requires inside { from ≤ length script.now }
-    requires valid { Ready R.Rack.valid rack }
-    ensures { IfOk result (λ s. Racks s.request × Ends s.request from s.played script.now × Goes (state plan (alone (option_map R.Rack.meaning rack))) (lines (drop from script.now)) out.old.items (state s.plan (memory_by s.request nothing)) (lines (drop s.played script.now)) out.new.items) }
+    requires valid { Ready R.valid rack }
+    ensures { IfOk result (λ s. Racks s.request × Ends s.request from s.played script.now × Goes (state plan (alone (option_map R.meaning rack))) (lines (drop from script.now)) out.old.items (state s.plan (memory_by s.request nothing)) (lines (drop s.played script.now)) out.new.items) }
 {
     let (rack, stop) = play_alone(heap, out, plan, rack, script, from)?;
     match rack {

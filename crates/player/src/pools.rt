@@ -23,7 +23,7 @@ use std::alloc::{AllocError, Global};
 
 // Whether a pool can be laid by a plan over a rack.
 fn check_lay<R: Rack>(field: FieldKind, plan: &Plan, rack: &R) -> Result<(), Refusal>
-    ensures { R.Rack.valid rack.now → why_not result ≡ lay_refusal plan.now (arithmetic_of field).order (R.Rack.meaning rack.now) }
+    ensures { R.valid rack.now → why_not result ≡ lay_refusal plan.now (arithmetic_of field).order (R.meaning rack.now) }
 {
     match field {
         FieldKind::Byte => Pool::check_lay(plan, &ByteField, rack),
@@ -34,9 +34,9 @@ fn check_lay<R: Rack>(field: FieldKind, plan: &Plan, rack: &R) -> Result<(), Ref
 
 // The label that bytes are, and whether the pool of that label can be opened over a rack.
 fn check_open<R: Rack>(field: FieldKind, bytes: &[u8], rack: &R) -> Result<Label, Refusal>
-    ensures why { why_not result ≡ open_refusal bytes.now (arithmetic_of field).order (R.Rack.meaning rack.now) }
+    ensures why { why_not result ≡ open_refusal bytes.now (arithmetic_of field).order (R.meaning rack.now) }
     ensures label { IfOk result (λ m. bytes.now ≡ label_of m) }
-    ensures fits { IfOk result (λ m. fit_refusal m.plan (arithmetic_of field).order (R.Rack.meaning rack.now) ≡ None) }
+    ensures fits { IfOk result (λ m. fit_refusal m.plan (arithmetic_of field).order (R.meaning rack.now) ≡ None) }
 {
     match field {
         FieldKind::Byte => Pool::check_open(bytes, &ByteField, rack),
@@ -47,9 +47,9 @@ fn check_open<R: Rack>(field: FieldKind, bytes: &[u8], rack: &R) -> Result<Label
 
 // The same, from the bytes that a line writes.
 fn label_of<R: Rack>(field: FieldKind, bytes: Option<[u8; 16]>, rack: &R) -> Result<Label, Refusal>
-    ensures why { why_not result ≡ open_refusal (label_bytes bytes) (arithmetic_of field).order (R.Rack.meaning rack.now) }
+    ensures why { why_not result ≡ open_refusal (label_bytes bytes) (arithmetic_of field).order (R.meaning rack.now) }
     ensures label { IfOk result (λ m. label_bytes bytes ≡ label_of m) }
-    ensures fits { IfOk result (λ m. fit_refusal m.plan (arithmetic_of field).order (R.Rack.meaning rack.now) ≡ None) }
+    ensures fits { IfOk result (λ m. fit_refusal m.plan (arithmetic_of field).order (R.meaning rack.now) ≡ None) }
 {
     match bytes {
         Some(bytes) => check_open(field, &bytes, rack),
@@ -97,7 +97,7 @@ pub fn ask_lay<R: Rack>(
     rack: &R,
     field: FieldKind,
 ) -> Result<Response, AllocError>
-    ensures { R.Rack.valid rack.now → IfOk result (λ a. (a.plan ≡ plan) × LayAnswered plan field (Some (R.Rack.meaning rack.now)) a.request (string_bytes a.text)) }
+    ensures { R.valid rack.now → IfOk result (λ a. (a.plan ≡ plan) × LayAnswered plan field (Some (R.meaning rack.now)) a.request (string_bytes a.text)) }
 {
     let Some(by) = plan else {
         return Ok(say(heap, plan, "no plan")?);
@@ -116,7 +116,7 @@ pub fn ask_open<R: Rack>(
     field: FieldKind,
     bytes: Option<[u8; 16]>,
 ) -> Result<Response, AllocError>
-    ensures { IfOk result (λ a. (a.plan ≡ plan) × OpenAnswered field (label_bytes bytes) (Some (R.Rack.meaning rack.now)) a.request (string_bytes a.text)) }
+    ensures { IfOk result (λ a. (a.plan ≡ plan) × OpenAnswered field (label_bytes bytes) (Some (R.meaning rack.now)) a.request (string_bytes a.text)) }
 {
     match label_of(field, bytes, rack) {
         Ok(label) => Ok(started(heap, plan, Start::Open(field, label))?),
@@ -141,7 +141,7 @@ pub fn lay_alone<R: Rack>(
     rack: &Option<R>,
     field: FieldKind,
 ) -> Result<Response, AllocError>
-    ensures { Ready R.Rack.valid rack.now → IfOk result (λ a. (a.plan ≡ plan) × LayAnswered plan field (option_map R.Rack.meaning rack.now) a.request (string_bytes a.text)) }
+    ensures { Ready R.valid rack.now → IfOk result (λ a. (a.plan ≡ plan) × LayAnswered plan field (option_map R.meaning rack.now) a.request (string_bytes a.text)) }
 {
     match rack {
         Some(rack) => ask_lay(heap, plan, rack, field),
@@ -157,7 +157,7 @@ pub fn open_alone<R: Rack>(
     field: FieldKind,
     bytes: Option<[u8; 16]>,
 ) -> Result<Response, AllocError>
-    ensures { IfOk result (λ a. (a.plan ≡ plan) × OpenAnswered field (label_bytes bytes) (option_map R.Rack.meaning rack.now) a.request (string_bytes a.text)) }
+    ensures { IfOk result (λ a. (a.plan ≡ plan) × OpenAnswered field (label_bytes bytes) (option_map R.meaning rack.now) a.request (string_bytes a.text)) }
 {
     match rack {
         Some(rack) => ask_open(heap, plan, rack, field, bytes),
@@ -171,7 +171,7 @@ pub fn show_pool<F: Field, R: Rack>(
     plan: Option<Plan>,
     pool: &Pool<F, R>,
 ) -> Result<Response, AllocError>
-    ensures { R.Rack.valid pool.now.rack → IfOk result (λ a. (a.plan ≡ plan) × (a.request ≡ None) × (string_bytes a.text ≡ standing_text pool.now.plan (standing F.Field.arithmetic R.Rack.valid R.Rack.meaning pool.now))) }
+    ensures { R.valid pool.now.rack → IfOk result (λ a. (a.plan ≡ plan) × (a.request ≡ None) × (string_bytes a.text ≡ standing_text pool.now.plan (standing F.arithmetic R.valid R.meaning pool.now))) }
 {
     let shown = pool.plan();
     Ok(Response {
@@ -187,7 +187,7 @@ pub fn show_pool_label<F: Field, R: Rack>(
     plan: Option<Plan>,
     pool: &Pool<F, R>,
 ) -> Result<Response, AllocError>
-    ensures { IfOk result (λ a. (a.plan ≡ plan) × (a.request ≡ None) × (string_bytes a.text ≡ pool_label_text pool.now.plan (standing F.Field.arithmetic R.Rack.valid R.Rack.meaning pool.now))) }
+    ensures { IfOk result (λ a. (a.plan ≡ plan) × (a.request ≡ None) × (string_bytes a.text ≡ pool_label_text pool.now.plan (standing F.arithmetic R.valid R.meaning pool.now))) }
 {
     Ok(Response {
         text: text::label(heap, pool.label())?,

@@ -24,7 +24,7 @@ pub enum Outcome {
 
 // A call on a rack.
 fn on_rack<R: Rack>(rack: &mut R, call: RackCall) -> Outcome
-    ensures { R.Rack.valid rack.old → (outcome_text result ≡ called_text (R.Rack.meaning rack.old) call) × (R.Rack.meaning rack.new ≡ called (R.Rack.meaning rack.old) call) × R.Rack.valid rack.new }
+    ensures { R.valid rack.old → (outcome_text result ≡ called_text (R.meaning rack.old) call) × (R.meaning rack.new ≡ called (R.meaning rack.old) call) × R.valid rack.new }
 {
     match call {
         RackCall::Get(module, slot, offset) => match rack.get(module, slot, offset) {
@@ -64,7 +64,7 @@ fn on_rack<R: Rack>(rack: &mut R, call: RackCall) -> Outcome
 
 /// A call on the rack in use, if there is one.
 pub fn on_rack_in_use<R: Rack>(rack: &mut Option<R>, call: RackCall) -> Outcome
-    ensures { Ready R.Rack.valid rack.old → (outcome_text result ≡ rack_text (alone (option_map R.Rack.meaning rack.old)) call) × (alone (option_map R.Rack.meaning rack.new) ≡ rack_after (alone (option_map R.Rack.meaning rack.old)) call) × Ready R.Rack.valid rack.new }
+    ensures { Ready R.valid rack.old → (outcome_text result ≡ rack_text (alone (option_map R.meaning rack.old)) call) × (alone (option_map R.meaning rack.new) ≡ rack_after (alone (option_map R.meaning rack.old)) call) × Ready R.valid rack.new }
 {
     match rack {
         Some(rack) => on_rack(rack, call),

@@ -95,8 +95,8 @@ pub fn replay<F: Field, R: Rack>(
     pool: &mut Pool<F, R>,
     calls: &[Call],
 ) -> Result<Vec<Answer>, AllocError>
-    requires { Held F.Field.arithmetic R.Rack.valid R.Rack.meaning pool.old }
-    ensures { IfOk result (λ told. Held F.Field.arithmetic R.Rack.valid R.Rack.meaning pool.new × (pool.new.plan ≡ pool.old.plan) × (pool.new.field ≡ pool.old.field) × Plays (F.Field.arithmetic pool.old.field) (scheme_of pool.old.plan) (standing F.Field.arithmetic R.Rack.valid R.Rack.meaning pool.old) calls.now told.items (standing F.Field.arithmetic R.Rack.valid R.Rack.meaning pool.new)) }
+    requires { Held F.arithmetic R.valid R.meaning pool.old }
+    ensures { IfOk result (λ told. Held F.arithmetic R.valid R.meaning pool.new × (pool.new.plan ≡ pool.old.plan) × (pool.new.field ≡ pool.old.field) × Plays (F.arithmetic pool.old.field) (scheme_of pool.old.plan) (standing F.arithmetic R.valid R.meaning pool.old) calls.now told.items (standing F.arithmetic R.valid R.meaning pool.new)) }
 {
     let mut told = vec![in heap; Answer::Done; calls.len()]?;
     pool.replay(calls, &mut told);
@@ -111,14 +111,14 @@ pub fn lay<F: Field, R: Rack>(
     calls: &[Call],
     told: &mut [Answer],
 ) -> Pool<F, R>
-    requires valid { R.Rack.valid rack }
-    requires fits { lay_refusal plan (F.Field.arithmetic field).order (R.Rack.meaning rack) ≡ None }
+    requires valid { R.valid rack }
+    requires fits { lay_refusal plan (F.arithmetic field).order (R.meaning rack) ≡ None }
     requires room { length told.old ≡ length calls.now }
-    ensures held { Held F.Field.arithmetic R.Rack.valid R.Rack.meaning result }
+    ensures held { Held F.arithmetic R.valid R.meaning result }
     ensures same_plan { result.plan ≡ plan }
     ensures same_field { result.field ≡ field }
     ensures long { length told.new ≡ length told.old }
-    ensures plays { Plays (F.Field.arithmetic field) (scheme_of plan) (laid_over plan (R.Rack.meaning rack)) calls.now told.new (standing F.Field.arithmetic R.Rack.valid R.Rack.meaning result) }
+    ensures plays { Plays (F.arithmetic field) (scheme_of plan) (laid_over plan (R.meaning rack)) calls.now told.new (standing F.arithmetic R.valid R.meaning result) }
 {
     lay_and_replay(plan, field, rack, calls, told)
 }
@@ -167,8 +167,8 @@ pub fn play_row<F: Field, R: Rack>(
     from: usize,
 ) -> Result<Pause, AllocError>
     requires inside { from ≤ length script.now }
-    requires held { Held F.Field.arithmetic R.Rack.valid R.Rack.meaning pool.old }
-    ensures { IfOk result (λ s. Held F.Field.arithmetic R.Rack.valid R.Rack.meaning pool.new × Paused script.now from s.end s.next × ((plan : Option Plan) → Goes (state plan (within F.Field.arithmetic R.Rack.valid R.Rack.meaning pool.old)) (lines (drop from script.now)) out.old.items (state plan (within F.Field.arithmetic R.Rack.valid R.Rack.meaning pool.new)) (lines (drop s.end script.now)) out.new.items)) }
+    requires held { Held F.arithmetic R.valid R.meaning pool.old }
+    ensures { IfOk result (λ s. Held F.arithmetic R.valid R.meaning pool.new × Paused script.now from s.end s.next × ((plan : Option Plan) → Goes (state plan (within F.arithmetic R.valid R.meaning pool.old)) (lines (drop from script.now)) out.old.items (state plan (within F.arithmetic R.valid R.meaning pool.new)) (lines (drop s.end script.now)) out.new.items)) }
 {
     let Row {
         calls,

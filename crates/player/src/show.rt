@@ -56,7 +56,7 @@ fn head(heap: Global, phase: Phase, carried: u16) -> Result<String, AllocError>
 
 // Whether a module is fitted.
 fn is_fitted<R: Rack>(rack: &R, module: u16) -> bool
-    ensures { R.Rack.valid rack.now → result ≡ (R.Rack.meaning rack.now).fitted «module» }
+    ensures { R.valid rack.now → result ≡ (R.meaning rack.now).fitted «module» }
 {
     rack.ask(module)
 }
@@ -68,7 +68,7 @@ fn push_out<R: Rack>(
     rack: &R,
     module: u16,
 ) -> Result<(), AllocError>
-    ensures { R.Rack.valid rack.now → OnOk result (string_bytes out.new ≡ string_bytes out.old ++ out_text (R.Rack.meaning rack.now) «module») }
+    ensures { R.valid rack.now → OnOk result (string_bytes out.new ≡ string_bytes out.old ++ out_text (R.meaning rack.now) «module») }
 {
     if !is_fitted(rack, module) {
         push_number(heap, out, module)?;
@@ -83,7 +83,7 @@ fn push_outs<R: Rack>(
     plan: &Plan,
     rack: &R,
 ) -> Result<(), AllocError>
-    ensures { R.Rack.valid rack.now → OnOk result (string_bytes out.new ≡ string_bytes out.old ++ each (modules_of plan.now.r plan.now.d2 plan.now.r2) (out_text (R.Rack.meaning rack.now))) }
+    ensures { R.valid rack.now → OnOk result (string_bytes out.new ≡ string_bytes out.old ++ each (modules_of plan.now.r plan.now.d2 plan.now.r2) (out_text (R.meaning rack.now))) }
 {
     for module in 0..plan.modules() {
         push_out(heap, out, rack, module)?;
@@ -93,7 +93,7 @@ fn push_outs<R: Rack>(
 
 // The symbol at a place; 0 where there is none.
 fn symbol_at<R: Rack>(rack: &R, module: u16, slot: u16, offset: u16) -> u16
-    ensures { R.Rack.valid rack.now → result ≡ (R.Rack.meaning rack.now).symbol «module» slot offset }
+    ensures { R.valid rack.now → result ≡ (R.meaning rack.now).symbol «module» slot offset }
 {
     rack.get(module, slot, offset).unwrap_or(0)
 }
@@ -107,7 +107,7 @@ fn push_symbols<R: Rack>(
     module: u16,
     slot: u16,
 ) -> Result<(), AllocError>
-    ensures { R.Rack.valid rack.now → OnOk result (string_bytes out.new ≡ string_bytes out.old ++ each plan.now.len (λ o. 32 ∷ decimal ((R.Rack.meaning rack.now).symbol «module» slot o))) }
+    ensures { R.valid rack.now → OnOk result (string_bytes out.new ≡ string_bytes out.old ++ each plan.now.len (λ o. 32 ∷ decimal ((R.meaning rack.now).symbol «module» slot o))) }
 {
     for offset in 0..plan.len {
         push_number(heap, out, symbol_at(rack, module, slot, offset))?;
@@ -124,7 +124,7 @@ fn push_slot<R: Rack>(
     module: u16,
     slot: u16,
 ) -> Result<(), AllocError>
-    ensures { R.Rack.valid rack.now → OnOk result (string_bytes out.new ≡ string_bytes out.old ++ slot_text (R.Rack.meaning rack.now) plan.now.len «module» slot) }
+    ensures { R.valid rack.now → OnOk result (string_bytes out.new ≡ string_bytes out.old ++ slot_text (R.meaning rack.now) plan.now.len «module» slot) }
 {
     let head = format!(in heap; "\nmodule {module} slot {slot}:")?;
     push_text(out, head.as_str())?;
@@ -140,7 +140,7 @@ fn push_slots<R: Rack>(
     rack: &R,
     module: u16,
 ) -> Result<(), AllocError>
-    ensures { R.Rack.valid rack.now → OnOk result (string_bytes out.new ≡ string_bytes out.old ++ each (slots_of plan.now.d plan.now.d2) (slot_text (R.Rack.meaning rack.now) plan.now.len «module»)) }
+    ensures { R.valid rack.now → OnOk result (string_bytes out.new ≡ string_bytes out.old ++ each (slots_of plan.now.d plan.now.d2) (slot_text (R.meaning rack.now) plan.now.len «module»)) }
 {
     for slot in 0..plan.slots() {
         push_slot(heap, out, plan, rack, module, slot)?;
@@ -156,7 +156,7 @@ fn push_module<R: Rack>(
     rack: &R,
     module: u16,
 ) -> Result<(), AllocError>
-    ensures { R.Rack.valid rack.now → OnOk result (string_bytes out.new ≡ string_bytes out.old ++ module_text (R.Rack.meaning rack.now) plan.now.len (slots_of plan.now.d plan.now.d2) «module») }
+    ensures { R.valid rack.now → OnOk result (string_bytes out.new ≡ string_bytes out.old ++ module_text (R.meaning rack.now) plan.now.len (slots_of plan.now.d plan.now.d2) «module») }
 {
     if is_fitted(rack, module) {
         push_slots(heap, out, plan, rack, module)?;
@@ -171,7 +171,7 @@ fn push_modules<R: Rack>(
     plan: &Plan,
     rack: &R,
 ) -> Result<(), AllocError>
-    ensures { R.Rack.valid rack.now → OnOk result (string_bytes out.new ≡ string_bytes out.old ++ each (modules_of plan.now.r plan.now.d2 plan.now.r2) (module_text (R.Rack.meaning rack.now) plan.now.len (slots_of plan.now.d plan.now.d2))) }
+    ensures { R.valid rack.now → OnOk result (string_bytes out.new ≡ string_bytes out.old ++ each (modules_of plan.now.r plan.now.d2 plan.now.r2) (module_text (R.meaning rack.now) plan.now.len (slots_of plan.now.d plan.now.d2))) }
 {
     for module in 0..plan.modules() {
         push_module(heap, out, plan, rack, module)?;
@@ -187,7 +187,7 @@ pub fn show<R: Rack>(
     carried: u16,
     rack: &R,
 ) -> Result<String, AllocError>
-    ensures { R.Rack.valid rack.now → IfOk result (λ s. string_bytes s ≡ show_text plan.now phase carried (R.Rack.meaning rack.now)) }
+    ensures { R.valid rack.now → IfOk result (λ s. string_bytes s ≡ show_text plan.now phase carried (R.meaning rack.now)) }
 {
     let mut out = head(heap, phase, carried)?;
     push_outs(heap, &mut out, plan, rack)?;

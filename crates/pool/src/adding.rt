@@ -15,7 +15,7 @@ pub(crate) fn add_at<F: Field, R: Rack>(
     offset: u16,
     amount: u16,
 )
-    ensures { R.Rack.valid rack.old → Spans (F.Field.arithmetic field.now) (R.Rack.meaning rack.old) («module» + 1) slot offset → R.Rack.valid rack.new × (R.Rack.meaning rack.new ≡ changed (R.Rack.meaning rack.old) (added_at (F.Field.arithmetic field.now) (R.Rack.meaning rack.old) «module» slot offset amount)) }
+    ensures { R.valid rack.old → Spans (F.arithmetic field.now) (R.meaning rack.old) («module» + 1) slot offset → R.valid rack.new × (R.meaning rack.new ≡ changed (R.meaning rack.old) (added_at (F.arithmetic field.now) (R.meaning rack.old) «module» slot offset amount)) }
 {
     if let Some(old) = rack.get(module, slot, offset) {
         let _ = rack.put(module, slot, offset, field.add(old, amount));
@@ -36,7 +36,7 @@ pub(crate) fn add_parities<F: Field, R: Rack>(
 )
     requires low { first ≤ 14 }
     requires few { count ≤ 4 }
-    ensures { R.Rack.valid rack.old → Spans (F.Field.arithmetic field.now) (R.Rack.meaning rack.old) (first + count) slot offset → R.Rack.valid rack.new × (R.Rack.meaning rack.new ≡ changed (R.Rack.meaning rack.old) (added_to (F.Field.arithmetic field.now) (R.Rack.meaning rack.old) first slot count x offset change)) }
+    ensures { R.valid rack.old → Spans (F.arithmetic field.now) (R.meaning rack.old) (first + count) slot offset → R.valid rack.new × (R.meaning rack.new ≡ changed (R.meaning rack.old) (added_to (F.arithmetic field.now) (R.meaning rack.old) first slot count x offset change)) }
 {
     for k in 0..count {
         let weight = coefficient(field, k as u8, x);

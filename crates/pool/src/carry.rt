@@ -28,7 +28,7 @@ use rack::rack::Rack;
 
 /// Adds to the symbol at a place.
 fn add_at<F: Field, R: Rack>(field: &F, rack: &mut R, module: u16, slot: u16, offset: u16, by: u16)
-    ensures { R.Rack.valid rack.old → (R.Rack.meaning rack.old).order ≡ (F.Field.arithmetic field.now).order → holds (R.Rack.meaning rack.old) «module» slot offset ≡ true → R.Rack.valid rack.new × (R.Rack.meaning rack.new ≡ stored (R.Rack.meaning rack.old) «module» slot offset ((F.Field.arithmetic field.now).add ((R.Rack.meaning rack.old).symbol «module» slot offset) by)) }
+    ensures { R.valid rack.old → (R.meaning rack.old).order ≡ (F.arithmetic field.now).order → holds (R.meaning rack.old) «module» slot offset ≡ true → R.valid rack.new × (R.meaning rack.new ≡ stored (R.meaning rack.old) «module» slot offset ((F.arithmetic field.now).add ((R.meaning rack.old).symbol «module» slot offset) by)) }
 {
     let old = symbol_at(rack, module, slot, offset);
     let _ = rack.put(module, slot, offset, field.add(old, by));
@@ -43,9 +43,9 @@ fn add_to_row<F: Field, R: Rack>(
     offset: u16,
     shares: [u16; 4],
 )
-    requires loaded { Loaded (F.Field.arithmetic field.now) load.now }
+    requires loaded { Loaded (F.arithmetic field.now) load.now }
     requires inside { row < (scheme_of load.now.plan).rows }
-    ensures { Grows R.Rack.valid R.Rack.meaning (F.Field.arithmetic field.now) (scheme_of load.now.plan) rack.old rack.new offset (to_row row shares) }
+    ensures { Grows R.valid R.meaning (F.arithmetic field.now) (scheme_of load.now.plan) rack.old rack.new offset (to_row row shares) }
 {
     let slot = load.base + row;
     for k in 0..load.plan.r2 {
@@ -62,9 +62,9 @@ fn add_to_row<F: Field, R: Rack>(
 
 /// What chunk `e` of the stripe adds at an offset to each parity of its row. The chunk is fetched once.
 fn shares_at<F: Field, R: Rack>(field: &F, rack: &R, load: &Load, e: usize, offset: u16) -> [u16; 4]
-    requires loaded { Loaded (F.Field.arithmetic field.now) load.now }
+    requires loaded { Loaded (F.arithmetic field.now) load.now }
     requires within { e < load.now.group.size }
-    ensures { R.Rack.valid rack.now → Shares (F.Field.arithmetic field.now) load.now e (chunks_at (scheme_of load.now.plan) (R.Rack.meaning rack.now) offset (chunk_in (scheme_of load.now.plan) load.now.group.index e)) result }
+    ensures { R.valid rack.now → Shares (F.arithmetic field.now) load.now e (chunks_at (scheme_of load.now.plan) (R.meaning rack.now) offset (chunk_in (scheme_of load.now.plan) load.now.group.index e)) result }
 {
     let symbol = symbol_at(rack, load.group.modules[e], load.group.slots[e], offset);
     let mut shares = [0; 4];
@@ -76,7 +76,7 @@ fn shares_at<F: Field, R: Rack>(field: &F, rack: &R, load: &Load, e: usize, offs
 
 /// What subtracting each share adds.
 fn negated<F: Field>(field: &F, shares: [u16; 4]) -> [u16; 4]
-    ensures { (k : ℕ) → k < 4 → slice_index result k ≡ (F.Field.arithmetic field.now).neg (slice_index shares k) }
+    ensures { (k : ℕ) → k < 4 → slice_index result k ≡ (F.arithmetic field.now).neg (slice_index shares k) }
 {
     let mut negs = [0; 4];
     for k in 0..4 {
@@ -87,9 +87,9 @@ fn negated<F: Field>(field: &F, shares: [u16; 4]) -> [u16; 4]
 
 /// Adds chunk `e` of the stripe at an offset to its own row.
 fn add_chunk<F: Field, R: Rack>(field: &F, rack: &mut R, load: &Load, e: usize, offset: u16)
-    requires loaded { Loaded (F.Field.arithmetic field.now) load.now }
+    requires loaded { Loaded (F.arithmetic field.now) load.now }
     requires within { e < load.now.group.size }
-    ensures { Grows R.Rack.valid R.Rack.meaning (F.Field.arithmetic field.now) (scheme_of load.now.plan) rack.old rack.new offset (λ k h. own_row (F.Field.arithmetic field.now) (scheme_of load.now.plan) load.now.group.index k (chunks_at (scheme_of load.now.plan) (R.Rack.meaning rack.old) offset) h e) }
+    ensures { Grows R.valid R.meaning (F.arithmetic field.now) (scheme_of load.now.plan) rack.old rack.new offset (λ k h. own_row (F.arithmetic field.now) (scheme_of load.now.plan) load.now.group.index k (chunks_at (scheme_of load.now.plan) (R.meaning rack.old) offset) h e) }
 {
     let shares = shares_at(field, rack, load, e, offset);
     add_to_row(field, rack, load, load.group.slots[e], offset, shares);
@@ -97,9 +97,9 @@ fn add_chunk<F: Field, R: Rack>(field: &F, rack: &mut R, load: &Load, e: usize, 
 
 /// Moves chunk `e` of the stripe at an offset from the home row, which has the stripe's parities, to its own row.
 fn move_chunk<F: Field, R: Rack>(field: &F, rack: &mut R, load: &Load, e: usize, offset: u16)
-    requires loaded { Loaded (F.Field.arithmetic field.now) load.now }
+    requires loaded { Loaded (F.arithmetic field.now) load.now }
     requires within { e < load.now.group.size }
-    ensures { Grows R.Rack.valid R.Rack.meaning (F.Field.arithmetic field.now) (scheme_of load.now.plan) rack.old rack.new offset (λ k h. outside_row (F.Field.arithmetic field.now) (scheme_of load.now.plan) load.now.group.index k (chunks_at (scheme_of load.now.plan) (R.Rack.meaning rack.old) offset) h e) }
+    ensures { Grows R.valid R.meaning (F.arithmetic field.now) (scheme_of load.now.plan) rack.old rack.new offset (λ k h. outside_row (F.arithmetic field.now) (scheme_of load.now.plan) load.now.group.index k (chunks_at (scheme_of load.now.plan) (R.meaning rack.old) offset) h e) }
 {
     let row = load.group.slots[e];
     if row == load.home {
@@ -112,9 +112,9 @@ fn move_chunk<F: Field, R: Rack>(field: &F, rack: &mut R, load: &Load, e: usize,
 
 /// Carries chunk `e` of the stripe at an offset.
 fn carry_chunk<F: Field, R: Rack>(field: &F, rack: &mut R, load: &Load, e: usize, offset: u16)
-    requires loaded { Loaded (F.Field.arithmetic field.now) load.now }
+    requires loaded { Loaded (F.arithmetic field.now) load.now }
     requires within { e < load.now.group.size }
-    ensures { Grows R.Rack.valid R.Rack.meaning (F.Field.arithmetic field.now) (scheme_of load.now.plan) rack.old rack.new offset (chunk_gain (F.Field.arithmetic field.now) (scheme_of load.now.plan) load.now.group.index (chunks_at (scheme_of load.now.plan) (R.Rack.meaning rack.old) offset) e) }
+    ensures { Grows R.valid R.meaning (F.arithmetic field.now) (scheme_of load.now.plan) rack.old rack.new offset (chunk_gain (F.arithmetic field.now) (scheme_of load.now.plan) load.now.group.index (chunks_at (scheme_of load.now.plan) (R.meaning rack.old) offset) e) }
 {
     if load.plan.r2 <= load.plan.r {
         move_chunk(field, rack, load, e, offset);
@@ -125,8 +125,8 @@ fn carry_chunk<F: Field, R: Rack>(field: &F, rack: &mut R, load: &Load, e: usize
 
 /// Carries the chunks of the stripe at an offset.
 fn carry_chunks<F: Field, R: Rack>(field: &F, rack: &mut R, load: &Load, offset: u16)
-    requires loaded { Loaded (F.Field.arithmetic field.now) load.now }
-    ensures { Grows R.Rack.valid R.Rack.meaning (F.Field.arithmetic field.now) (scheme_of load.now.plan) rack.old rack.new offset (λ k h. total (F.Field.arithmetic field.now) (scheme_of load.now.plan).d (λ e. chunk_gain (F.Field.arithmetic field.now) (scheme_of load.now.plan) load.now.group.index (chunks_at (scheme_of load.now.plan) (R.Rack.meaning rack.old) offset) e k h)) }
+    requires loaded { Loaded (F.arithmetic field.now) load.now }
+    ensures { Grows R.valid R.meaning (F.arithmetic field.now) (scheme_of load.now.plan) rack.old rack.new offset (λ k h. total (F.arithmetic field.now) (scheme_of load.now.plan).d (λ e. chunk_gain (F.arithmetic field.now) (scheme_of load.now.plan) load.now.group.index (chunks_at (scheme_of load.now.plan) (R.meaning rack.old) offset) e k h)) }
 {
     for e in 0..load.group.size as usize {
         carry_chunk(field, rack, load, e, offset);
@@ -135,7 +135,7 @@ fn carry_chunks<F: Field, R: Rack>(field: &F, rack: &mut R, load: &Load, offset:
 
 /// The parities of the stripe at an offset, as many as a row has.
 fn parities_at<R: Rack>(rack: &R, load: &Load, offset: u16) -> [u16; 4]
-    ensures { R.Rack.valid rack.now → (k : ℕ) → k < (scheme_of load.now.plan).r' → slice_index result k ≡ (R.Rack.meaning rack.now).symbol ((scheme_of load.now.plan).d' + k) load.now.group.index offset }
+    ensures { R.valid rack.now → (k : ℕ) → k < (scheme_of load.now.plan).r' → slice_index result k ≡ (R.meaning rack.now).symbol ((scheme_of load.now.plan).d' + k) load.now.group.index offset }
 {
     let mut parities = [0; 4];
     for k in 0..load.plan.r2 {
@@ -146,8 +146,8 @@ fn parities_at<R: Rack>(rack: &R, load: &Load, offset: u16) -> [u16; 4]
 
 /// Adds the parities of the stripe at an offset to its home row, unless a row has more parities than a stripe.
 fn carry_parities<F: Field, R: Rack>(field: &F, rack: &mut R, load: &Load, offset: u16)
-    requires loaded { Loaded (F.Field.arithmetic field.now) load.now }
-    ensures { Grows R.Rack.valid R.Rack.meaning (F.Field.arithmetic field.now) (scheme_of load.now.plan) rack.old rack.new offset (home_gain (scheme_of load.now.plan) load.now.group.index (λ k. (R.Rack.meaning rack.old).symbol ((scheme_of load.now.plan).d' + k) load.now.group.index offset)) }
+    requires loaded { Loaded (F.arithmetic field.now) load.now }
+    ensures { Grows R.valid R.meaning (F.arithmetic field.now) (scheme_of load.now.plan) rack.old rack.new offset (home_gain (scheme_of load.now.plan) load.now.group.index (λ k. (R.meaning rack.old).symbol ((scheme_of load.now.plan).d' + k) load.now.group.index offset)) }
 {
     if load.plan.r2 <= load.plan.r {
         let parities = parities_at(rack, load, offset);
@@ -157,8 +157,8 @@ fn carry_parities<F: Field, R: Rack>(field: &F, rack: &mut R, load: &Load, offse
 
 /// Carries the stripe at one offset.
 fn carry_at<F: Field, R: Rack>(field: &F, rack: &mut R, load: &Load, offset: u16)
-    requires loaded { Loaded (F.Field.arithmetic field.now) load.now }
-    ensures { Grows R.Rack.valid R.Rack.meaning (F.Field.arithmetic field.now) (scheme_of load.now.plan) rack.old rack.new offset (stripe_gain (F.Field.arithmetic field.now) (scheme_of load.now.plan) load.now.group.index (R.Rack.meaning rack.old) offset) }
+    requires loaded { Loaded (F.arithmetic field.now) load.now }
+    ensures { Grows R.valid R.meaning (F.arithmetic field.now) (scheme_of load.now.plan) rack.old rack.new offset (stripe_gain (F.arithmetic field.now) (scheme_of load.now.plan) load.now.group.index (R.meaning rack.old) offset) }
 {
     carry_parities(field, rack, load, offset);
     carry_chunks(field, rack, load, offset);
@@ -166,8 +166,8 @@ fn carry_at<F: Field, R: Rack>(field: &F, rack: &mut R, load: &Load, offset: u16
 
 /// Carries the stripe, offset by offset.
 fn carry_all<F: Field, R: Rack>(field: &F, rack: &mut R, load: &Load)
-    requires loaded { Loaded (F.Field.arithmetic field.now) load.now }
-    ensures { R.Rack.valid rack.old → Whole (F.Field.arithmetic field.now) (scheme_of load.now.plan) (R.Rack.meaning rack.old) → R.Rack.valid rack.new × (R.Rack.meaning rack.new ≡ changed (R.Rack.meaning rack.old) (carried_symbol (F.Field.arithmetic field.now) (scheme_of load.now.plan) load.now.group.index (R.Rack.meaning rack.old))) }
+    requires loaded { Loaded (F.arithmetic field.now) load.now }
+    ensures { R.valid rack.old → Whole (F.arithmetic field.now) (scheme_of load.now.plan) (R.meaning rack.old) → R.valid rack.new × (R.meaning rack.new ≡ changed (R.meaning rack.old) (carried_symbol (F.arithmetic field.now) (scheme_of load.now.plan) load.now.group.index (R.meaning rack.old))) }
 {
     for offset in 0..load.plan.len {
         carry_at(field, rack, load, offset);
@@ -176,7 +176,7 @@ fn carry_all<F: Field, R: Rack>(field: &F, rack: &mut R, load: &Load)
 
 /// The coefficients of the stripe's chunks in each parity.
 fn weights_of<F: Field>(field: &F, group: &Group) -> [[u16; 14]; 4]
-    ensures { (k : ℕ) → k < 4 → Weights (F.Field.arithmetic field.now) group.now k (slice_index_or result k []) }
+    ensures { (k : ℕ) → k < 4 → Weights (F.arithmetic field.now) group.now k (slice_index_or result k []) }
 {
     let mut all = [[0; 14]; 4];
     for k in 0..4u8 {
@@ -187,7 +187,7 @@ fn weights_of<F: Field>(field: &F, group: &Group) -> [[u16; 14]; 4]
 
 /// What carrying a stripe needs; none where the plan has no such stripe.
 fn load_of<F: Field>(field: &F, plan: &Plan, stripe: u16) -> Option<Load>
-    ensures { MatchOption result ((scheme_of plan.now).stripes ≤ stripe) (LoadOf (F.Field.arithmetic field.now) plan.now stripe) }
+    ensures { MatchOption result ((scheme_of plan.now).stripes ≤ stripe) (LoadOf (F.arithmetic field.now) plan.now stripe) }
 {
     let group = Group::of(plan, Kind::Stripe, stripe)?;
     let home = plan.home(stripe)?;
@@ -244,7 +244,7 @@ impl<F: Field, R: Rack> Pool<F, R> {
     /// Carries the next stripe: what it adds goes into the staged parities of the rows. Answers how many data chunks and how
     /// many parity chunks were read.
     pub(crate) fn carry_stripe(&mut self) -> Result<(u16, u16), Refusal>
-        ensures { Obeys F.Field.arithmetic R.Rack.valid R.Rack.meaning self.old self.new Carry (of_counts result) }
+        ensures { Obeys F.arithmetic R.valid R.meaning self.old self.new Carry (of_counts result) }
     {
         if let Some(refusal) = not_under_way(self.phase) {
             return Err(refusal);
@@ -261,7 +261,7 @@ impl<F: Field, R: Rack> Pool<F, R> {
     /// Answers how many data chunks and how many parity chunks were read. Refused before and after the changeover, where it is
     /// voided, and where all stripes are carried.
     pub fn carry(&mut self, _order: &Order) -> Result<(u16, u16), Refusal>
-        ensures { Obeys F.Field.arithmetic R.Rack.valid R.Rack.meaning self.old self.new Carry (of_counts result) }
+        ensures { Obeys F.arithmetic R.valid R.meaning self.old self.new Carry (of_counts result) }
     {
         self.carry_stripe()
     }

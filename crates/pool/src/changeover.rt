@@ -42,7 +42,7 @@ fn dropped(phase: Phase) -> Phase
 impl<F: Field, R: Rack> Pool<F, R> {
     /// Why no changeover can begin.
     fn begin_refusal(&self) -> Option<Refusal>
-        ensures { R.Rack.valid self.now.rack → result ≡ refusal_of F.Field.arithmetic R.Rack.valid R.Rack.meaning self.now Begin }
+        ensures { R.valid self.now.rack → result ≡ refusal_of F.arithmetic R.valid R.meaning self.now Begin }
     {
         match self.phase {
             Phase::Before => match lowest_out(&self.rack, self.plan.modules()) {
@@ -55,7 +55,7 @@ impl<F: Field, R: Rack> Pool<F, R> {
 
     /// Why the changeover can be neither made ready nor closed.
     fn close_refusal(&self) -> Option<Refusal>
-        ensures { result ≡ refusal_of F.Field.arithmetic R.Rack.valid R.Rack.meaning self.now Close }
+        ensures { result ≡ refusal_of F.arithmetic R.valid R.meaning self.now Close }
     {
         match self.phase {
             Phase::Before => Some(wrong_phase(0)),
@@ -74,7 +74,7 @@ impl<F: Field, R: Rack> Pool<F, R> {
     /// Begins the changeover: the staged parities of all rows are 0, and no stripe is carried. Refused where a changeover is under
     /// way, voided or done, and where one of the modules is out.
     pub fn begin(&mut self) -> Result<Order, Refusal>
-        ensures book { Obeys F.Field.arithmetic R.Rack.valid R.Rack.meaning self.old self.new Begin (of_done result) }
+        ensures book { Obeys F.arithmetic R.valid R.meaning self.old self.new Begin (of_done result) }
         ensures number { IfOk result (λ o. o.stripes ≡ stripes_of self.old.plan.d self.old.plan.d2) }
     {
         if let Some(refusal) = self.begin_refusal() {
@@ -99,7 +99,7 @@ impl<F: Field, R: Rack> Pool<F, R> {
     /// Makes the changeover ready to be closed. Refused where none is under way, where it is voided, and where not every stripe is
     /// carried; a refusal hands the order back.
     pub fn ready(&self, order: Order) -> Result<ReadyOrder, (Order, Refusal)>
-        ensures book { Obeys F.Field.arithmetic R.Rack.valid R.Rack.meaning self.now self.now Ready (of_order result) }
+        ensures book { Obeys F.arithmetic R.valid R.meaning self.now self.now Ready (of_order result) }
         ensures back { IfErr result (λ e. e.0 ≡ order) }
         ensures number { IfOk result (λ o. o.stripes ≡ order.stripes) }
     {
@@ -112,7 +112,7 @@ impl<F: Field, R: Rack> Pool<F, R> {
     /// Closes the changeover: from here on the parities of the rows are those that count. Refused where `ready` is; a refusal
     /// hands the order back.
     pub fn close(&mut self, order: ReadyOrder) -> Result<(), (ReadyOrder, Refusal)>
-        ensures book { Obeys F.Field.arithmetic R.Rack.valid R.Rack.meaning self.old self.new Close (of_order result) }
+        ensures book { Obeys F.arithmetic R.valid R.meaning self.old self.new Close (of_order result) }
         ensures back { IfErr result (λ e. e.0 ≡ order) }
     {
         if let Some(refusal) = self.close_refusal() {
@@ -125,7 +125,7 @@ impl<F: Field, R: Rack> Pool<F, R> {
 
     /// Gives the changeover up, whether it is under way or voided, and ends its order. It is never refused.
     pub fn drop(&mut self, order: AnyOrder)
-        ensures { Obeys F.Field.arithmetic R.Rack.valid R.Rack.meaning self.old self.new Drop Done }
+        ensures { Obeys F.arithmetic R.valid R.meaning self.old self.new Drop Done }
     {
         order.spend();
         self.phase = dropped(self.phase);

@@ -19,7 +19,7 @@ use rack::rack::Rack;
 
 /// Why a field and a rack do not fit a plan: their orders first, then the rack's modules, slots and offsets.
 fn fit_refusal<F: Field, R: Rack>(plan: &Plan, field: &F, rack: &R) -> Option<Refusal>
-    ensures { result ≡ fit_refusal plan.now (F.Field.arithmetic field.now).order (R.Rack.meaning rack.now) }
+    ensures { result ≡ fit_refusal plan.now (F.arithmetic field.now).order (R.meaning rack.now) }
 {
     if field.order() != plan.order {
         return Some(does_not_fit(1));
@@ -59,7 +59,7 @@ fn is_after(phase: Phase) -> bool
 impl<F: Field, R: Rack> Pool<F, R> {
     /// Says whether a pool can be laid: the field and the rack fit the plan, and every module of the plan is fitted.
     pub fn check_lay(plan: &Plan, field: &F, rack: &R) -> Result<(), Refusal>
-        ensures { R.Rack.valid rack.now → why_not result ≡ lay_refusal plan.now (F.Field.arithmetic field.now).order (R.Rack.meaning rack.now) }
+        ensures { R.valid rack.now → why_not result ≡ lay_refusal plan.now (F.arithmetic field.now).order (R.meaning rack.now) }
     {
         if let Some(refusal) = fit_refusal(plan, field, rack) {
             return Err(refusal);
@@ -72,13 +72,13 @@ impl<F: Field, R: Rack> Pool<F, R> {
 
     /// Lays a pool over a rack that the check does not refuse. Every symbol of the pool is 0.
     pub fn lay(plan: Plan, field: F, rack: R) -> Pool<F, R>
-        requires valid { R.Rack.valid rack }
-        requires fits { lay_refusal plan (F.Field.arithmetic field).order (R.Rack.meaning rack) ≡ None }
-        ensures held { Held F.Field.arithmetic R.Rack.valid R.Rack.meaning result }
+        requires valid { R.valid rack }
+        requires fits { lay_refusal plan (F.arithmetic field).order (R.meaning rack) ≡ None }
+        ensures held { Held F.arithmetic R.valid R.meaning result }
         ensures same_plan { result.plan ≡ plan }
         ensures same_field { result.field ≡ field }
-        ensures stands { standing F.Field.arithmetic R.Rack.valid R.Rack.meaning result ≡ laid_over plan (R.Rack.meaning rack) }
-        ensures agrees { Agrees (F.Field.arithmetic field) (scheme_of plan) (standing F.Field.arithmetic R.Rack.valid R.Rack.meaning result) blank }
+        ensures stands { standing F.arithmetic R.valid R.meaning result ≡ laid_over plan (R.meaning rack) }
+        ensures agrees { Agrees (F.arithmetic field) (scheme_of plan) (standing F.arithmetic R.valid R.meaning result) blank }
     {
         let mut rack = rack;
         let modules = plan.modules();
@@ -95,9 +95,9 @@ impl<F: Field, R: Rack> Pool<F, R> {
 
     /// Reads a label, and says whether the pool of that label can be opened: the field and the rack fit its plan. Modules may be out.
     pub fn check_open(bytes: &[u8], field: &F, rack: &R) -> Result<Label, Refusal>
-        ensures why { why_not result ≡ open_refusal bytes.now (F.Field.arithmetic field.now).order (R.Rack.meaning rack.now) }
+        ensures why { why_not result ≡ open_refusal bytes.now (F.arithmetic field.now).order (R.meaning rack.now) }
         ensures label { IfOk result (λ m. bytes.now ≡ label_of m) }
-        ensures fits { IfOk result (λ m. fit_refusal m.plan (F.Field.arithmetic field.now).order (R.Rack.meaning rack.now) ≡ None) }
+        ensures fits { IfOk result (λ m. fit_refusal m.plan (F.arithmetic field.now).order (R.meaning rack.now) ≡ None) }
     {
         let label = Label::read(bytes)?;
         match fit_refusal(&label.plan, field, rack) {
@@ -108,9 +108,9 @@ impl<F: Field, R: Rack> Pool<F, R> {
 
     /// Opens the pool of a label over a rack that the check does not refuse. It writes nothing.
     pub fn open(label: Label, field: F, rack: R) -> Pool<F, R>
-        requires valid { R.Rack.valid rack }
-        requires fits { fit_refusal label.plan (F.Field.arithmetic field).order (R.Rack.meaning rack) ≡ None }
-        ensures held { Held F.Field.arithmetic R.Rack.valid R.Rack.meaning result }
+        requires valid { R.valid rack }
+        requires fits { fit_refusal label.plan (F.arithmetic field).order (R.meaning rack) ≡ None }
+        ensures held { Held F.arithmetic R.valid R.meaning result }
         ensures is { result ≡ opened label field rack }
     {
         Pool {

@@ -27,7 +27,7 @@ impl<F: Field, R: Rack> Pool<F, R> {
     /// Takes a module out. A changeover that is under way is voided by it. Refused where there is no such module, and where it is
     /// out already.
     pub fn pull(&mut self, module: u16) -> Result<(), Refusal>
-        ensures { Obeys F.Field.arithmetic R.Rack.valid R.Rack.meaning self.old self.new (Pull «module») (of_done result) }
+        ensures { Obeys F.arithmetic R.valid R.meaning self.old self.new (Pull «module») (of_done result) }
     {
         if module >= self.plan.modules() {
             return Err(no_module(module));

@@ -7,7 +7,7 @@ use rack::rack::Rack;
 
 /// Whether each module of the plan is out. No flag is set past them.
 pub(crate) fn outs<R: Rack>(rack: &R, plan: &Plan) -> [bool; 32]
-    ensures { R.Rack.valid rack.now → Outs (scheme_of plan.now) (R.Rack.meaning rack.now) result }
+    ensures { R.valid rack.now → Outs (scheme_of plan.now) (R.meaning rack.now) result }
 {
     let mut out = [false; 32];
     for m in 0..plan.modules() {

@@ -111,7 +111,7 @@ fn put_chunk<R: Rack>(
     chunks: [u16; 14],
 )
     requires { e < 14 }
-    ensures { R.Rack.valid rack.old → R.Rack.valid rack.new × (R.Rack.meaning rack.new ≡ chunk_put group.now «module» offset e chunks (R.Rack.meaning rack.old)) }
+    ensures { R.valid rack.old → R.valid rack.new × (R.meaning rack.new ≡ chunk_put group.now «module» offset e chunks (R.meaning rack.old)) }
 {
     if e < group.size as usize && group.modules[e] == module {
         let _ = rack.put(module, group.slots[e], offset, chunks[e]);
@@ -120,7 +120,7 @@ fn put_chunk<R: Rack>(
 
 /// Puts the chunks of a group that are on a module back, at one offset.
 fn put_chunks<R: Rack>(rack: &mut R, group: &Group, module: u16, offset: u16, chunks: [u16; 14])
-    ensures { R.Rack.valid rack.old → R.Rack.valid rack.new × PutsChunks group.now «module» offset chunks 14 (R.Rack.meaning rack.old) (R.Rack.meaning rack.new) }
+    ensures { R.valid rack.old → R.valid rack.new × PutsChunks group.now «module» offset chunks 14 (R.meaning rack.old) (R.meaning rack.new) }
 {
     for e in 0..14 {
         put_chunk(rack, group, module, offset, e, chunks);
@@ -136,7 +136,7 @@ fn put_parity<F: Field, R: Rack>(
     offset: u16,
     chunks: [u16; 14],
 )
-    ensures { R.Rack.valid rack.old → R.Rack.valid rack.new × PutsParity (F.Field.arithmetic field.now) group.now «module» offset chunks (R.Rack.meaning rack.old) (R.Rack.meaning rack.new) }
+    ensures { R.valid rack.old → R.valid rack.new × PutsParity (F.arithmetic field.now) group.now «module» offset chunks (R.meaning rack.old) (R.meaning rack.new) }
 {
     if let Some(k) = parity_on(group, module) {
         let _ = rack.put(
@@ -150,7 +150,7 @@ fn put_parity<F: Field, R: Rack>(
 
 /// Rebuilds the pieces of a group that are on a module, at one offset. Each symbol is fetched once.
 fn restore_at<F: Field, R: Rack>(field: &F, rack: &mut R, repair: &Repair, module: u16, offset: u16)
-    ensures { R.Rack.valid rack.old → R.Rack.valid rack.new × PutsBack (F.Field.arithmetic field.now) repair.now «module» offset (R.Rack.meaning rack.old) (R.Rack.meaning rack.new) }
+    ensures { R.valid rack.old → R.valid rack.new × PutsBack (F.arithmetic field.now) repair.now «module» offset (R.meaning rack.old) (R.meaning rack.new) }
 {
     let chunks = repair.chunks_at(field, rack, offset);
     put_chunks(rack, &repair.group, module, offset, chunks);
@@ -159,7 +159,7 @@ fn restore_at<F: Field, R: Rack>(field: &F, rack: &mut R, repair: &Repair, modul
 
 /// Rebuilds the pieces of a group that are on a module, at the offsets below `len`.
 fn restore_group<F: Field, R: Rack>(field: &F, rack: &mut R, repair: &Repair, module: u16, len: u16)
-    ensures { R.Rack.valid rack.old → R.Rack.valid rack.new × Goes (F.Field.arithmetic field.now) repair.now «module» len (R.Rack.meaning rack.old) (R.Rack.meaning rack.new) }
+    ensures { R.valid rack.old → R.valid rack.new × Goes (F.arithmetic field.now) repair.now «module» len (R.meaning rack.old) (R.meaning rack.new) }
 {
     for offset in 0..len {
         restore_at(field, rack, repair, module, offset);
@@ -176,7 +176,7 @@ fn restore_one<F: Field, R: Rack>(
     module: u16,
     out: [bool; 32],
 )
-    ensures { R.Rack.valid rack.old → R.Rack.valid rack.new × ((F.Field.arithmetic field.now).order ≡ plan.now.order → Goes_on (F.Field.arithmetic field.now) (scheme_of plan.now) kind (flags out) «module» index (R.Rack.meaning rack.old) (R.Rack.meaning rack.new)) }
+    ensures { R.valid rack.old → R.valid rack.new × ((F.arithmetic field.now).order ≡ plan.now.order → Goes_on (F.arithmetic field.now) (scheme_of plan.now) kind (flags out) «module» index (R.meaning rack.old) (R.meaning rack.new)) }
 {
     if has_piece(plan, kind, index, module) {
         if let Ok(repair) = prepare(plan, field, kind, index, out) {
@@ -194,7 +194,7 @@ fn restore<F: Field, R: Rack>(
     module: u16,
     out: [bool; 32],
 )
-    ensures { R.Rack.valid rack.old → R.Rack.valid rack.new × ((F.Field.arithmetic field.now).order ≡ plan.now.order → GoesThrough (F.Field.arithmetic field.now) (scheme_of plan.now) kind (flags out) «module» (groups (scheme_of plan.now) kind) (R.Rack.meaning rack.old) (R.Rack.meaning rack.new)) }
+    ensures { R.valid rack.old → R.valid rack.new × ((F.arithmetic field.now).order ≡ plan.now.order → GoesThrough (F.arithmetic field.now) (scheme_of plan.now) kind (flags out) «module» (groups (scheme_of plan.now) kind) (R.meaning rack.old) (R.meaning rack.new)) }
 {
     for i in 0..groups_of(plan, kind) {
         restore_one(plan, field, rack, kind, i, module, out);
@@ -205,7 +205,7 @@ impl<F: Field, R: Rack> Pool<F, R> {
     /// Fits a module that is out again, and rebuilds its settled pieces. Its other slots are zero. Refused where there is no such
     /// module, where it is fitted, and where one of its settled groups misses more pieces than it has parities.
     pub fn refit(&mut self, module: u16) -> Result<(), Refusal>
-        ensures { Obeys F.Field.arithmetic R.Rack.valid R.Rack.meaning self.old self.new (Refit «module») (of_done result) }
+        ensures { Obeys F.arithmetic R.valid R.meaning self.old self.new (Refit «module») (of_done result) }
     {
         if module >= self.plan.modules() {
             return Err(no_module(module));

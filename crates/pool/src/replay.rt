@@ -59,7 +59,7 @@ fn room_for(calls: &[Call], told: &[Answer]) -> usize
 impl<F: Field, R: Rack> Pool<F, R> {
     /// Begins the changeover, and ends its order.
     fn begin_told(&mut self) -> Answer
-        ensures { Obeys F.Field.arithmetic R.Rack.valid R.Rack.meaning self.old self.new Begin result }
+        ensures { Obeys F.arithmetic R.valid R.meaning self.old self.new Begin result }
     {
         match self.begin() {
             Ok(order) => {
@@ -72,7 +72,7 @@ impl<F: Field, R: Rack> Pool<F, R> {
 
     /// Makes the changeover ready, with an order that stands in for the one that its begin gave.
     fn ready_told(&self) -> Answer
-        ensures { Obeys F.Field.arithmetic R.Rack.valid R.Rack.meaning self.now self.now Ready result }
+        ensures { Obeys F.arithmetic R.valid R.meaning self.now self.now Ready result }
     {
         match self.ready(Order::any()) {
             Ok(order) => {
@@ -88,7 +88,7 @@ impl<F: Field, R: Rack> Pool<F, R> {
 
     /// Closes the changeover, with a ready order that stands in.
     fn close_told(&mut self) -> Answer
-        ensures { Obeys F.Field.arithmetic R.Rack.valid R.Rack.meaning self.old self.new Close result }
+        ensures { Obeys F.arithmetic R.valid R.meaning self.old self.new Close result }
     {
         match self.close(ReadyOrder::any()) {
             Ok(()) => Answer::Done,
@@ -101,7 +101,7 @@ impl<F: Field, R: Rack> Pool<F, R> {
 
     /// Carries a stripe, with an order that stands in.
     fn carry_told(&mut self) -> Answer
-        ensures { Obeys F.Field.arithmetic R.Rack.valid R.Rack.meaning self.old self.new Carry result }
+        ensures { Obeys F.arithmetic R.valid R.meaning self.old self.new Carry result }
     {
         let order = Order::any();
         let told = counts_told(self.carry(&order));
@@ -111,7 +111,7 @@ impl<F: Field, R: Rack> Pool<F, R> {
 
     /// Gives the changeover up, with an order that stands in.
     fn drop_told(&mut self) -> Answer
-        ensures { Obeys F.Field.arithmetic R.Rack.valid R.Rack.meaning self.old self.new Drop result }
+        ensures { Obeys F.arithmetic R.valid R.meaning self.old self.new Drop result }
     {
         self.drop(AnyOrder::Begun(Order::any()));
         Answer::Done
@@ -119,7 +119,7 @@ impl<F: Field, R: Rack> Pool<F, R> {
 
     /// Makes a call. An order bears no mark of its pool, so that any order stands in where the call takes one.
     fn perform(&mut self, call: Call) -> Answer
-        ensures { Obeys F.Field.arithmetic R.Rack.valid R.Rack.meaning self.old self.new call result }
+        ensures { Obeys F.arithmetic R.valid R.meaning self.old self.new call result }
     {
         match call {
             Call::Read(chunk, offset) => symbol_told(self.read(chunk, offset)),
@@ -137,7 +137,7 @@ impl<F: Field, R: Rack> Pool<F, R> {
     /// Makes a list of calls of the pool, one after another, and writes what each answers into `told`. Where the list is longer
     /// than `told`, the calls that there is no room for are not made; where it is shorter, the rest of `told` stays.
     pub fn replay(&mut self, calls: &[Call], told: &mut [Answer])
-        ensures plays { Replays F.Field.arithmetic R.Rack.valid R.Rack.meaning self.old self.new (take (length told.old) calls.now) (take (length calls.now) told.new) }
+        ensures plays { Replays F.arithmetic R.valid R.meaning self.old self.new (take (length told.old) calls.now) (take (length calls.now) told.new) }
         ensures rest { drop (length calls.now) told.new ≡ drop (length calls.now) told.old }
         ensures long { length told.new ≡ length told.old }
     {

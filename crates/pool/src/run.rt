@@ -18,9 +18,9 @@ pub fn lay_and_replay<F: Field, R: Rack>(
     calls: &[Call],
     told: &mut [Answer],
 ) -> Pool<F, R>
-    requires valid { R.Rack.valid rack }
-    requires fits { lay_refusal plan (F.Field.arithmetic field).order (R.Rack.meaning rack) ≡ None }
-    ensures law { LaidAndReplayed F.Field.arithmetic R.Rack.valid R.Rack.meaning plan field rack result (take (length told.old) calls.now) (take (length calls.now) told.new) }
+    requires valid { R.valid rack }
+    requires fits { lay_refusal plan (F.arithmetic field).order (R.meaning rack) ≡ None }
+    ensures law { LaidAndReplayed F.arithmetic R.valid R.meaning plan field rack result (take (length told.old) calls.now) (take (length calls.now) told.new) }
     ensures rest { drop (length calls.now) told.new ≡ drop (length calls.now) told.old }
     ensures long { length told.new ≡ length told.old }
 {

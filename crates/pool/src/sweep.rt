@@ -8,7 +8,7 @@ use rack::rack::Rack;
 
 /// The lowest of the first modules that is out.
 pub(crate) fn lowest_out<R: Rack>(rack: &R, modules: u16) -> Option<u16>
-    ensures { R.Rack.valid rack.now → result ≡ lowest (λ m. not ((R.Rack.meaning rack.now).fitted m)) modules }
+    ensures { R.valid rack.now → result ≡ lowest (λ m. not ((R.meaning rack.now).fitted m)) modules }
 {
     for module in 0..modules {
         if !rack.ask(module) {
@@ -20,7 +20,7 @@ pub(crate) fn lowest_out<R: Rack>(rack: &R, modules: u16) -> Option<u16>
 
 /// Puts 0 at the offsets below `until` of some slots of a module.
 fn clear_slots<R: Rack>(rack: &mut R, module: u16, first: u16, last: u16, until: u16)
-    ensures { R.Rack.valid rack.old → Blocked «module» («module» + 1) first last until (R.Rack.meaning rack.old) → (R.Rack.meaning rack.new ≡ zeroed «module» («module» + 1) first last until (R.Rack.meaning rack.old)) × R.Rack.valid rack.new }
+    ensures { R.valid rack.old → Blocked «module» («module» + 1) first last until (R.meaning rack.old) → (R.meaning rack.new ≡ zeroed «module» («module» + 1) first last until (R.meaning rack.old)) × R.valid rack.new }
 {
     for slot in first..last {
         let _ = clear_slot(rack, module, slot, until);
@@ -36,7 +36,7 @@ pub(crate) fn clear_block<R: Rack>(
     last: u16,
     until: u16,
 )
-    ensures { R.Rack.valid rack.old → Blocked low high first last until (R.Rack.meaning rack.old) → (R.Rack.meaning rack.new ≡ zeroed low high first last until (R.Rack.meaning rack.old)) × R.Rack.valid rack.new }
+    ensures { R.valid rack.old → Blocked low high first last until (R.meaning rack.old) → (R.meaning rack.new ≡ zeroed low high first last until (R.meaning rack.old)) × R.valid rack.new }
 {
     for module in low..high {
         clear_slots(rack, module, first, last, until);

@@ -23,7 +23,7 @@ use rack::rack::Rack;
 
 /// The symbol at a place; 0 where there is none.
 pub(crate) fn symbol_at<R: Rack>(rack: &R, module: u16, slot: u16, offset: u16) -> u16
-    ensures { R.Rack.valid rack.now → result ≡ (R.Rack.meaning rack.now).symbol «module» slot offset }
+    ensures { R.valid rack.now → result ≡ (R.meaning rack.now).symbol «module» slot offset }
 {
     rack.get(module, slot, offset).unwrap_or(0)
 }
@@ -32,7 +32,7 @@ impl<F: Field, R: Rack> Pool<F, R> {
     /// The symbol of a word whose module is out, from the first pieces that are left of its settled group.
     fn rebuild_word(&self, chunk: u16, cell: Cell, offset: u16) -> Result<u16, Refusal>
         requires { CellOf self.now.plan.d self.now.plan.d2 chunk (Some cell) }
-        ensures { Held F.Field.arithmetic R.Rack.valid R.Rack.meaning self.now → (R.Rack.meaning self.now.rack).fitted cell.column ≡ false → Looked (F.Field.arithmetic self.now.field) (scheme_of self.now.plan) (standing F.Field.arithmetic R.Rack.valid R.Rack.meaning self.now) chunk offset result }
+        ensures { Held F.arithmetic R.valid R.meaning self.now → (R.meaning self.now.rack).fitted cell.column ≡ false → Looked (F.arithmetic self.now.field) (scheme_of self.now.plan) (standing F.arithmetic R.valid R.meaning self.now) chunk offset result }
     {
         let kind = settled_kind(self.phase);
         let index = group_of(&self.plan, kind, chunk, cell);
@@ -45,7 +45,7 @@ impl<F: Field, R: Rack> Pool<F, R> {
     /// The symbol of a word: that in the rack, or where its module is out, that which is rebuilt.
     fn find_word(&self, chunk: u16, cell: Cell, offset: u16) -> Result<u16, Refusal>
         requires { CellOf self.now.plan.d self.now.plan.d2 chunk (Some cell) }
-        ensures { Held F.Field.arithmetic R.Rack.valid R.Rack.meaning self.now → Looked (F.Field.arithmetic self.now.field) (scheme_of self.now.plan) (standing F.Field.arithmetic R.Rack.valid R.Rack.meaning self.now) chunk offset result }
+        ensures { Held F.arithmetic R.valid R.meaning self.now → Looked (F.arithmetic self.now.field) (scheme_of self.now.plan) (standing F.arithmetic R.valid R.meaning self.now) chunk offset result }
     {
         if self.rack.ask(cell.column) {
             return Ok(symbol_at(&self.rack, cell.column, cell.row, offset));
@@ -56,7 +56,7 @@ impl<F: Field, R: Rack> Pool<F, R> {
     /// Reads a word. Refused where there is no such chunk or offset, and where the chunk's module is out and its stripe, or
     /// its row after the changeover, misses more pieces than it has parities.
     pub fn read(&self, chunk: u16, offset: u16) -> Result<u16, Refusal>
-        ensures { Obeys F.Field.arithmetic R.Rack.valid R.Rack.meaning self.now self.now (Read chunk offset) (of_symbol result) }
+        ensures { Obeys F.arithmetic R.valid R.meaning self.now self.now (Read chunk offset) (of_symbol result) }
     {
         let Some(cell) = self.plan.cell(chunk) else {
             return Err(no_word(1));
@@ -81,7 +81,7 @@ impl<F: Field, R: Rack> Pool<F, R> {
     /// the staged ones if there are any, of its chunk.
     fn store_word(&mut self, chunk: u16, cell: Cell, offset: u16, symbol: u16, old: u16)
         requires { CellOf self.old.plan.d self.old.plan.d2 chunk (Some cell) }
-        ensures { Held F.Field.arithmetic R.Rack.valid R.Rack.meaning self.old → offset < self.old.plan.len → symbol < (F.Field.arithmetic self.old.field).order → Wrote F.Field.arithmetic R.Rack.valid R.Rack.meaning self.old self.new chunk offset symbol old }
+        ensures { Held F.arithmetic R.valid R.meaning self.old → offset < self.old.plan.len → symbol < (F.arithmetic self.old.field).order → Wrote F.arithmetic R.valid R.meaning self.old self.new chunk offset symbol old }
     {
         let kind = settled_kind(self.phase);
         let index = group_of(&self.plan, kind, chunk, cell);
@@ -120,7 +120,7 @@ impl<F: Field, R: Rack> Pool<F, R> {
     /// Writes a word. Refused where there is no such chunk or offset, where the symbol is none of the field, and where the
     /// chunk's module is out and its stripe, or its row after the changeover, misses more pieces than it has parities.
     pub fn write(&mut self, chunk: u16, offset: u16, symbol: u16) -> Result<(), Refusal>
-        ensures { Obeys F.Field.arithmetic R.Rack.valid R.Rack.meaning self.old self.new (Write chunk offset symbol) (of_done result) }
+        ensures { Obeys F.arithmetic R.valid R.meaning self.old self.new (Write chunk offset symbol) (of_done result) }
     {
         let Some(cell) = self.plan.cell(chunk) else {
             return Err(no_word(1));

@@ -6,7 +6,7 @@ use crate::rack::Rack;
 
 /// Puts 0 at each offset below `until` of a slot. False, and nothing done, where the slot is outside, its module out, or `until` past the length.
 pub fn clear_slot<R: Rack>(rack: &mut R, module: u16, slot: u16, until: u16) -> bool
-    ensures { R.Rack.valid rack.old → Clears (R.Rack.meaning rack.old) (R.Rack.meaning rack.new) «module» slot until result × R.Rack.valid rack.new }
+    ensures { R.valid rack.old → Clears (R.meaning rack.old) (R.meaning rack.new) «module» slot until result × R.valid rack.new }
 {
     if module >= rack.modules()
         || slot >= rack.slots()

@@ -112,7 +112,7 @@ fn respond<R: Rack>(
     rack: &mut Option<R>,
     command: Command,
 ) -> Result<Response, AllocError>
-    ensures { Ready R.Rack.valid rack.old → IfOk result (λ a. Responds (bench plan (option_map R.Rack.meaning rack.old)) command (bench a.plan (rack_by a.rack (option_map R.Rack.meaning rack.new))) (string_bytes a.text) × Ready R.Rack.valid rack.new × Makeable a.rack) }
+    ensures { Ready R.valid rack.old → IfOk result (λ a. Responds (bench plan (option_map R.meaning rack.old)) command (bench a.plan (rack_by a.rack (option_map R.meaning rack.new))) (string_bytes a.text) × Ready R.valid rack.new × Makeable a.rack) }
 {
     match command {
         Command::Plan(order, d, r, d2, r2, len) => {
@@ -149,7 +149,7 @@ pub fn answer<R: Rack>(
     rack: &mut Option<R>,
     line: &[u8],
 ) -> Result<Response, AllocError>
-    ensures { Ready R.Rack.valid rack.old → IfOk result (λ a. Answers (bench plan (option_map R.Rack.meaning rack.old)) line.now (bench a.plan (rack_by a.rack (option_map R.Rack.meaning rack.new))) (string_bytes a.text) × Ready R.Rack.valid rack.new × Makeable a.rack) }
+    ensures { Ready R.valid rack.old → IfOk result (λ a. Answers (bench plan (option_map R.meaning rack.old)) line.now (bench a.plan (rack_by a.rack (option_map R.meaning rack.new))) (string_bytes a.text) × Ready R.valid rack.new × Makeable a.rack) }
 {
     match script::parse(line) {
         Some(command) => Ok(respond(heap, plan, rack, command)?),

@@ -79,7 +79,7 @@ fn play<R: Rack + Drop>(
     rack: Option<R>,
     script: &[u8],
 ) -> Result<Stop, AllocError>
-    ensures { Ready R.Rack.valid rack → IfOk result (λ s. Ends s.request s.played script.now × ((b : Bench) (all : List (List ℕ)) → Sofar b all (bench plan (option_map R.Rack.meaning rack)) (lines script.now) out.old.items → Sofar b all (bench s.plan (rack_by s.request None)) (lines (drop s.played script.now)) out.new.items)) }
+    ensures { Ready R.valid rack → IfOk result (λ s. Ends s.request s.played script.now × ((b : Bench) (all : List (List ℕ)) → Sofar b all (bench plan (option_map R.meaning rack)) (lines script.now) out.old.items → Sofar b all (bench s.plan (rack_by s.request None)) (lines (drop s.played script.now)) out.new.items)) }
 {
     let mut plan = plan;
     let mut rack = rack;

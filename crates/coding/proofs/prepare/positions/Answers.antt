@@ -6,8 +6,8 @@ use Rattle.coding.proofs.prepare.positions.Goals.{then-xs-e, then-n-lt4, else-n-
 pub loop-e-init : goal.loop-e-init
 loop-e-init c = begun c.args.xs.now
 
-pub overflow-add-n : goal.overflow-add-n
-overflow-add-n c = omega (arith, found_le c.args.xs.now c.loop-e.e c.loop-e.list c.loop-e.n c.loop-e.invariant)
+pub overflow_add-n : goal.overflow_add-n
+overflow_add-n c = omega (arith, found_le c.args.xs.now c.loop-e.e c.loop-e.list c.loop-e.n c.loop-e.invariant)
 
 pub loop-e-preserved : goal.loop-e-preserved
 loop-e-preserved c =

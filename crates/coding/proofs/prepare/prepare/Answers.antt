@@ -5,12 +5,12 @@ use Rattle.coding.proofs.Preparing as preparing
 use Rattle.coding.proofs.Rebuilding as rebuilding
 use Rattle.coding.proofs.prepare.prepare.Goals as goal
 
-pub returns-in-default : goal.returns-in-default
-returns-in-default g c =
+pub returns-in_default : goal.returns-in_default
+returns-in_default g c =
     let p = c.args.plan.now in
     let A = g.F.Field.arithmetic c.args.field.now in
     record {
-      prepared = (λ l. absurd (omega (arith, l, c.in-default.ensures)), c.too-many.ensures);
+      prepared = (λ l. absurd (omega (arith, l, c.in_default.ensures)), c.too_many.ensures);
       one_word = λ e. rebuilding.one_word A (g.met.F.Field.lawful c.args.field.now) (scheme_of p) (plan.sound p A e);
     }
 
@@ -19,15 +19,15 @@ returns-then-count-left g c =
     let p = c.args.plan.now in
     let A = g.F.Field.arithmetic c.args.field.now in
     let made = c.in-Some.ensures in
-    let xl : length c.gone-of-gone.result ≡ 14 = omega arith in
-    let yl : length c.held-of-held.result ≡ 4 = omega arith in
+    let xl : length c.gone_of-gone.result ≡ 14 = omega arith in
+    let yl : length c.held_of-held.result ≡ 4 = omega arith in
     record {
       prepared = (
         λ l. preparing.too_few p c.args.kind c.args.index l c.in-Some.group made.1 c.args.out
-            c.gone-of-gone.result xl c.gone-of-gone.ensures c.positions-count.result.0 c.positions-count.result.1 c.positions-count.ensures
-            c.held-of-held.result yl c.held-of-held.ensures c.positions-left.result.0 c.positions-left.result.1 c.positions-left.ensures
+            c.gone_of-gone.result xl c.gone_of-gone.ensures c.positions-count.result.0 c.positions-count.result.1 c.positions-count.ensures
+            c.held_of-held.result yl c.held_of-held.ensures c.positions-left.result.0 c.positions-left.result.1 c.positions-left.ensures
             c.if-count-left.true,
-        c.too-many-then-count-left.ensures,
+        c.too_many-then-count-left.ensures,
       );
       one_word = λ e. rebuilding.one_word A (g.met.F.Field.lawful c.args.field.now) (scheme_of p) (plan.sound p A e);
     }
@@ -38,21 +38,21 @@ returns g c =
     let A = g.F.Field.arithmetic c.args.field.now in
     let L = g.met.F.Field.lawful c.args.field.now in
     let made = c.in-Some.ensures in
-    let xl : length c.gone-of-gone.result ≡ 14 = omega arith in
-    let yl : length c.held-of-held.result ≡ 4 = omega arith in
+    let xl : length c.gone_of-gone.result ≡ 14 = omega arith in
+    let yl : length c.held_of-held.result ≡ 4 = omega arith in
     record {
       prepared = (
         made.0,
         preparing.enough p c.args.kind c.args.index made.0 c.in-Some.group made.1 c.args.out
-            c.gone-of-gone.result xl c.gone-of-gone.ensures c.positions-count.result.0 c.positions-count.result.1 c.positions-count.ensures
-            c.held-of-held.result yl c.held-of-held.ensures c.positions-left.result.0 c.positions-left.result.1 c.positions-left.ensures
+            c.gone_of-gone.result xl c.gone_of-gone.ensures c.positions-count.result.0 c.positions-count.result.1 c.positions-count.ensures
+            c.held_of-held.result yl c.held_of-held.ensures c.positions-left.result.0 c.positions-left.result.1 c.positions-left.ensures
             c.if-count-left.false,
         λ e.
             preparing.ready p c.args.kind c.args.index made.0 c.in-Some.group made.1 c.args.out
-            c.gone-of-gone.result xl c.gone-of-gone.ensures c.positions-count.result.0 c.positions-count.result.1 c.positions-count.ensures
-            c.held-of-held.result yl c.held-of-held.ensures c.positions-left.result.0 c.positions-left.result.1 c.positions-left.ensures
+            c.gone_of-gone.result xl c.gone_of-gone.ensures c.positions-count.result.0 c.positions-count.result.1 c.positions-count.ensures
+            c.held_of-held.result yl c.held_of-held.ensures c.positions-left.result.0 c.positions-left.result.1 c.positions-left.ensures
             A L e c.if-count-left.false _ refl refl refl refl refl
-            c.sources-of-sources.ensures c.rows-of-coefficients.ensures c.columns-of-columns.ensures c.inverse-of-inverse.ensures,
+            c.sources_of-sources.ensures c.rows_of-coefficients.ensures c.columns_of-columns.ensures c.inverse_of-inverse.ensures,
       );
       one_word = λ e. rebuilding.one_word A L (scheme_of p) (plan.sound p A e);
     }

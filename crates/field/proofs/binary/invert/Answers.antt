@@ -12,7 +12,7 @@ loop-i-init c =
 
 pub loop-i-preserved : goal.loop-i-preserved
 loop-i-preserved c =
-    let turn = powers_turn (product c.args.w c.args.p c.args.w) (c.args.w - 1) c.loop-i.-i c.loop-i.square c.loop-i.power c.loop-i-test.true in (
+    let turn = powers_turn (product c.args.w c.args.p c.args.w) (c.args.w - 1) c.loop-i._i c.loop-i.square c.loop-i.power c.loop-i-test.true in (
       c.multiply-square.ensures.below,
       c.multiply-power.ensures.below,
       rw (c.multiply-power.ensures.is, c.multiply-square.ensures.is) (turn ∙ c.loop-i.invariant.2),
@@ -21,7 +21,7 @@ loop-i-preserved c =
 pub returns : goal.returns
 returns c =
     record {
-      is = sym (powers_end (product c.args.w c.args.p c.args.w) (c.args.w - 1) c.loop-i.-i c.loop-i.square c.loop-i.power c.loop-i-test.false)
+      is = sym (powers_end (product c.args.w c.args.p c.args.w) (c.args.w - 1) c.loop-i._i c.loop-i.square c.loop-i.power c.loop-i-test.false)
           ∙ c.loop-i.invariant.2;
       below = c.loop-i.invariant.1;
     }

@@ -5,4 +5,4 @@ use Rattle.field.proofs.binary.invert.Given as goal
 
 abbrev pub invariant-loop-i : goal.invariant-loop-i
 invariant-loop-i l =
-    (l.square < 2 ^ l.w) × (l.power < 2 ^ l.w) × (powers (product l.w l.p l.w) ((l.w - 1) - l.-i) l.square l.power ≡ powers (product l.w l.p l.w) (l.w - 1) l.a 1)
+    (l.square < 2 ^ l.w) × (l.power < 2 ^ l.w) × (powers (product l.w l.p l.w) ((l.w - 1) - l._i) l.square l.power ≡ powers (product l.w l.p l.w) (l.w - 1) l.a 1)

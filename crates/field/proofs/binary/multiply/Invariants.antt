@@ -5,4 +5,4 @@ use Rattle.field.proofs.binary.multiply.Given as goal
 
 abbrev pub invariant-loop-i : goal.invariant-loop-i
 invariant-loop-i l =
-    (l.x < 2 ^ l.w) × (bit_xor l.sum (product l.w l.p (l.w - l.-i) l.x l.y) ≡ product l.w l.p l.w l.a l.b)
+    (l.x < 2 ^ l.w) × (bit_xor l.sum (product l.w l.p (l.w - l._i) l.x l.y) ≡ product l.w l.p l.w l.a l.b)

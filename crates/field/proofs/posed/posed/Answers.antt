@@ -4,28 +4,28 @@ use Rattle.field.specs.Elimination.{Once}
 use Rattle.field.proofs.Tests.{never, once, taken, posed, rows_once, columns_once}
 use Rattle.field.proofs.posed.posed.Goals as goal
 
-pub returns-then-distinct-below : goal.returns-then-distinct-below
-returns-then-distinct-below g c =
+pub returns-then-distinct_below : goal.returns-then-distinct_below
+returns-then-distinct_below g c =
     let A = g.F.Field.arithmetic c.args.field.now in
     let n = c.args.n in
     let ks = c.args.ks in
     let xs = c.args.xs in
-    let limit : c.saturating-sub-limit.result ≡ A.order - 4 = cc in
+    let limit : c.saturating_sub-limit.result ≡ A.order - 4 = cc in
     let ks-long : n ≤ length ks = omega arith in
     let xs-long : n ≤ length xs = omega arith in
     let few : n ≤ 4 = omega arith in (
       λ e.
-          posed A n ks xs few (once n 4 ks ks-long (c.distinct-below.ensures.0 c.if-distinct-below.true))
-          (subst (λ (q : ℕ). Once n q xs) limit (once n _ xs xs-long (c.distinct-below-then-distinct-below.ensures.0 e))),
+          posed A n ks xs few (once n 4 ks ks-long (c.distinct_below.ensures.0 c.if-distinct_below.true))
+          (subst (λ (q : ℕ). Once n q xs) limit (once n _ xs xs-long (c.distinct_below-then-distinct_below.ensures.0 e))),
       λ p.
-          c.distinct-below-then-distinct-below.ensures.1
+          c.distinct_below-then-distinct_below.ensures.1
           (taken n _ xs xs-long (subst (λ (q : ℕ). Once n q xs) (sym limit) (columns_once A n ks xs p))),
     )
 
-pub returns-else-distinct-below : goal.returns-else-distinct-below
-returns-else-distinct-below g c =
+pub returns-else-distinct_below : goal.returns-else-distinct_below
+returns-else-distinct_below g c =
     let A = g.F.Field.arithmetic c.args.field.now in
     let ks-long : c.args.n ≤ length c.args.ks = omega arith in (
-      λ e. absurd {A = Posed A c.args.n c.args.ks c.args.xs} (never c.distinct-below.result c.if-distinct-below.false e),
-      λ p. c.distinct-below.ensures.1 (taken c.args.n 4 c.args.ks ks-long (rows_once A c.args.n c.args.ks c.args.xs p)),
+      λ e. absurd {A = Posed A c.args.n c.args.ks c.args.xs} (never c.distinct_below.result c.if-distinct_below.false e),
+      λ p. c.distinct_below.ensures.1 (taken c.args.n 4 c.args.ks ks-long (rows_once A c.args.n c.args.ks c.args.xs p)),
     )

@@ -4,7 +4,7 @@ use Rattle.field.proofs.prime.invert.Goals as goal
 
 pub loop-i-preserved : goal.loop-i-preserved
 loop-i-preserved c =
-    let turn = powers_turn (λ s t. s * t % 257) 7 c.loop-i.-i c.loop-i.square c.loop-i.power c.loop-i-test.true in (
+    let turn = powers_turn (λ s t. s * t % 257) 7 c.loop-i._i c.loop-i.square c.loop-i.power c.loop-i-test.true in (
       omega arith,
       rw (c.multiply-power.ensures, c.multiply-square.ensures) (turn ∙ c.loop-i.invariant.1),
     )
@@ -12,6 +12,6 @@ loop-i-preserved c =
 pub returns : goal.returns
 returns c =
     record {
-      is = sym (powers_end (λ s t. s * t % 257) 7 c.loop-i.-i c.loop-i.square c.loop-i.power c.loop-i-test.false) ∙ c.loop-i.invariant.1;
+      is = sym (powers_end (λ s t. s * t % 257) 7 c.loop-i._i c.loop-i.square c.loop-i.power c.loop-i-test.false) ∙ c.loop-i.invariant.1;
       below = c.loop-i.invariant.0;
     }

@@ -10,11 +10,11 @@ loop-x-preserved g c =
     let A = g.F.Field.arithmetic c.args.field.now in
     let f : ℕ → ℕ = λ j. A.mul (get_or c.args.a.now j 0) (get_or c.args.b.now j 0) in
     let n = length c.loop-x.yielded in
-    let first : iter_rest (zip_first c.into-iter-x-iterator.result) ≡ c.args.a.now = cc in
-    let second : iter_rest (zip_second c.into-iter-x-iterator.result) ≡ c.args.b.now = cc in
+    let first : iter_rest (zip_first c.into_iter-x-iterator.result) ≡ c.args.a.now = cc in
+    let second : iter_rest (zip_second c.into_iter-x-iterator.result) ≡ c.args.b.now = cc in
     let turn =
-    zip_turn c.args.a.now c.args.b.now c.loop-x.yielded c.into-iter-x-iterator.result c.loop-x.x-iterator c.next.new.self c.next.result
-    first second c.loop-x.yielded-by (c.in-Some.x, c.in-Some.y) c.in-Some.is c.next.ensures.steps in
+    zip_turn c.args.a.now c.args.b.now c.loop-x.yielded c.into_iter-x-iterator.result c.loop-x.x-iterator c.next.new.self c.next.result
+    first second c.loop-x.yielded_by (c.in-Some.x, c.in-Some.y) c.in-Some.is c.next.ensures.steps in
     let x_is = turn.2 0 in
     let y-is = turn.3 0 in
     let e : c.add-sum.result ≡ A.add (total A n f) (f n) = cc in
@@ -23,11 +23,11 @@ loop-x-preserved g c =
 pub returns : goal.returns
 returns g c =
     let A = g.F.Field.arithmetic c.args.field.now in
-    let first : iter_rest (zip_first c.into-iter-x-iterator.result) ≡ c.args.a.now = cc in
-    let second : iter_rest (zip_second c.into-iter-x-iterator.result) ≡ c.args.b.now = cc in
+    let first : iter_rest (zip_first c.into_iter-x-iterator.result) ≡ c.args.a.now = cc in
+    let second : iter_rest (zip_second c.into_iter-x-iterator.result) ≡ c.args.b.now = cc in
     let end =
-    zip_end c.args.a.now c.args.b.now c.loop-x.yielded c.into-iter-x-iterator.result c.loop-x.x-iterator c.next.new.self c.next.result
-    first second c.loop-x.yielded-by c.in-None.is c.next.ensures.steps in
+    zip_end c.args.a.now c.args.b.now c.loop-x.yielded c.into_iter-x-iterator.result c.loop-x.x-iterator c.next.new.self c.next.result
+    first second c.loop-x.yielded_by c.in-None.is c.next.ensures.steps in
     record {
       is = c.loop-x.invariant.1 ∙ ap (λ (m : ℕ). total A m (λ j. A.mul (get_or c.args.a.now j 0) (get_or c.args.b.now j 0))) end;
       below = c.loop-x.invariant.0;

@@ -13,7 +13,7 @@ solution-requires g c =
     let few = c.requires.few in
     record {
       posed = c.requires;
-      codes = subst (λ (b : List ℕ). Codes A c.args.n b) (sym c.unit-sides.ensures)
+      codes = subst (λ (b : List ℕ). Codes A c.args.n b) (sym c.unit_sides.ensures)
           (λ i h. unit_codes A (g.met.F.Field.lawful c.args.field.now) c.loop-k.k (omega arith) i (omega arith));
     }
 
@@ -22,7 +22,7 @@ loop-k-preserved g c =
     let A = g.F.Field.arithmetic c.args.field.now in
     let few = c.requires.few in
     filled _ _ [] c.loop-k.k c.loop-k.rows c.solution.result (omega arith) c.loop-k.invariant
-    (subst (λ (b : List ℕ). Solution A c.args.n c.args.ks c.args.xs b c.solution.result) c.unit-sides.ensures c.solution.ensures)
+    (subst (λ (b : List ℕ). Solution A c.args.n c.args.ks c.args.xs b c.solution.result) c.unit_sides.ensures c.solution.ensures)
 
 pub returns : goal.returns
 returns g c =

@@ -6,16 +6,16 @@ use Rattle.layout.proofs.Bounds.{split, stripes_le}
 use Rattle.layout.proofs.Facts.{outside_is}
 use Rattle.layout.proofs.numbers.outside.Goals as goal
 
-pub overflow-mul-result : goal.overflow-mul-result
-overflow-mul-result c =
+pub overflow_mul-result : goal.overflow_mul-result
+overflow_mul-result c =
     omega (
       arith,
       mul-le c.beta.result (c.args.d - c.args.n % c.args.d) 14 14
           (omega (arith, c.beta.ensures, split c.requires c.if-d-n.true, stripes_le c.requires)) (omega (arith, c.requires.high)),
     )
 
-pub overflow-mul-result-else-d-n : goal.overflow-mul-result-else-d-n
-overflow-mul-result-else-d-n c =
+pub overflow_mul-result-else-d-n : goal.overflow_mul-result-else-d-n
+overflow_mul-result-else-d-n c =
     omega (
       arith,
       mul-le c.stripes.result (c.args.d - c.args.n) 14 14 (omega (arith, c.stripes.ensures, stripes_le c.requires)) (omega (arith, c.requires.high)),

@@ -5,31 +5,31 @@ use Rattle.layout.proofs.numbers.wide_chunk.Goals as goal
 pub start-requires : goal.start-requires
 start-requires c = (c.requires.0.sized, omega (arith, i_le _ _ _ _ c.requires.0))
 
-pub overflow-mul-result : goal.overflow-mul-result
-overflow-mul-result c = omega (arith, times_w_le _ _ _ _ c.requires.0)
+pub overflow_mul-result : goal.overflow_mul-result
+overflow_mul-result c = omega (arith, times_w_le _ _ _ _ c.requires.0)
 
-pub overflow-mul-result-then-off-w : goal.overflow-mul-result-then-off-w
-overflow-mul-result-then-off-w c = omega (arith, times_wd_le _ _ _ _ c.requires.0)
+pub overflow_mul-result-then-off-w : goal.overflow_mul-result-then-off-w
+overflow_mul-result-then-off-w c = omega (arith, times_wd_le _ _ _ _ c.requires.0)
 
-pub overflow-add-result : goal.overflow-add-result
-overflow-add-result c =
+pub overflow_add-result : goal.overflow_add-result
+overflow_add-result c =
     rw c.start.ensures.0 (omega (arith, times_wd_le _ _ _ _ c.requires.0, off_lt _ _ _ _ c.requires.0, c.requires.0.sized.high'))
 
 pub returns-then-off-w : goal.returns-then-off-w
 returns-then-off-w c =
     rw c.start.ensures.0 (wide_chunk_whole _ _ _ _ (rw c.start.ensures.0 at c.if-off-w.true))
 
-pub overflow-mul-whole : goal.overflow-mul-whole
-overflow-mul-whole c = rw c.rows.ensures (omega (arith, w_rows_le _ _ _ _ c.requires.0))
+pub overflow_mul-whole : goal.overflow_mul-whole
+overflow_mul-whole c = rw c.rows.ensures (omega (arith, w_rows_le _ _ _ _ c.requires.0))
 
-pub overflow-add-result-then-i-b : goal.overflow-add-result-then-i-b
-overflow-add-result-then-i-b c = rw c.rows.ensures (omega (arith, w_rows_le _ _ _ _ c.requires.0, i_le _ _ _ _ c.requires.0))
+pub overflow_add-result-then-i-b : goal.overflow_add-result-then-i-b
+overflow_add-result-then-i-b c = rw c.rows.ensures (omega (arith, w_rows_le _ _ _ _ c.requires.0, i_le _ _ _ _ c.requires.0))
 
-pub overflow-mul-result-then-i-b : goal.overflow-mul-result-then-i-b
-overflow-mul-result-then-i-b c = rw c.rows.ensures (omega (arith, split_le _ _ _ _ c.requires.0))
+pub overflow_mul-result-then-i-b : goal.overflow_mul-result-then-i-b
+overflow_mul-result-then-i-b c = rw c.rows.ensures (omega (arith, split_le _ _ _ _ c.requires.0))
 
-pub overflow-add-result-then-i-b-2 : goal.overflow-add-result-then-i-b-2
-overflow-add-result-then-i-b-2 c =
+pub overflow_add-result-then-i-b-2 : goal.overflow_add-result-then-i-b-2
+overflow_add-result-then-i-b-2 c =
     rw (c.rows.ensures, c.start.ensures.0)
     (omega (arith, split_le _ _ _ _ c.requires.0, off_lt _ _ _ _ c.requires.0, c.requires.0.sized.high'))
 
@@ -38,27 +38,27 @@ returns-then-i-b c =
     rw (c.rows.ensures, c.start.ensures.0)
     (wide_chunk_head _ _ _ _ (rw c.start.ensures.0 at c.if-off-w.false) (rw c.beta-b.ensures at c.if-i-b.true))
 
-pub overflow-mul-t : goal.overflow-mul-t
-overflow-mul-t c = rw c.beta-b.ensures (omega (arith, rests_le _ _ _ _ c.requires.0))
+pub overflow_mul-t : goal.overflow_mul-t
+overflow_mul-t c = rw c.beta-b.ensures (omega (arith, rests_le _ _ _ _ c.requires.0))
 
-pub overflow-add-t : goal.overflow-add-t
-overflow-add-t c =
+pub overflow_add-t : goal.overflow_add-t
+overflow_add-t c =
     rw (c.beta-b.ensures, c.start.ensures.0)
     (omega (arith, rests_le _ _ _ _ c.requires.0, off_lt _ _ _ _ c.requires.0, c.requires.0.sized.high'))
 
-pub overflow-add-result-2 : goal.overflow-add-result-2
-overflow-add-result-2 c = rw (c.rows.ensures, c.beta-b.ensures, c.start.ensures.0) (omega (arith, wide_tail_le _ _ _ _ c.requires.0))
+pub overflow_add-result-2 : goal.overflow_add-result-2
+overflow_add-result-2 c = rw (c.rows.ensures, c.beta-b.ensures, c.start.ensures.0) (omega (arith, wide_tail_le _ _ _ _ c.requires.0))
 
-pub overflow-mul-result-2 : goal.overflow-mul-result-2
-overflow-mul-result-2 c = rw (c.rows.ensures, c.beta-b.ensures, c.start.ensures.0) (omega (arith, wide_base_le _ _ _ _ c.requires.0))
+pub overflow_mul-result-2 : goal.overflow_mul-result-2
+overflow_mul-result-2 c = rw (c.rows.ensures, c.beta-b.ensures, c.start.ensures.0) (omega (arith, wide_base_le _ _ _ _ c.requires.0))
 
-pub overflow-add-result-3 : goal.overflow-add-result-3
-overflow-add-result-3 c =
+pub overflow_add-result-3 : goal.overflow_add-result-3
+overflow_add-result-3 c =
     rw (c.rows.ensures, c.beta-b.ensures, c.start.ensures.0)
     (omega (arith, wide_base_le _ _ _ _ c.requires.0, rest_lt _ _ _ _ c.requires.0, c.requires.0.sized.high))
 
-pub overflow-add-result-4 : goal.overflow-add-result-4
-overflow-add-result-4 c =
+pub overflow_add-result-4 : goal.overflow_add-result-4
+overflow_add-result-4 c =
     rw (c.rows.ensures, c.beta-b.ensures, c.start.ensures.0)
     (omega (arith, wide_base_le _ _ _ _ c.requires.0, rest_lt _ _ _ _ c.requires.0, c.requires.0.sized.high, wide_rest_le _ _ _ _ c.requires.0))
 

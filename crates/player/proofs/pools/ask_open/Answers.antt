@@ -3,9 +3,9 @@ use Rattle.player.specs.Answers.{label_bytes}
 use Rattle.player.proofs.Plans.{open_started}
 use Rattle.player.proofs.pools.ask_open.Goals as goal
 
-pub returns-in-ok-started : goal.returns-in-ok-started
-returns-in-ok-started g c =
-    let h = c.in-ok-started.ensures in
+pub returns-in_ok-started : goal.returns-in_ok-started
+returns-in_ok-started g c =
+    let h = c.in_ok-started.ensures in
     let e = c.in-Ok.ensures in
-    let a = c.in-ok-started.field-0 in
+    let a = c.in_ok-started.field-0 in
     (h.0, open_started (label_bytes c.args.bytes) (g.R.Rack.meaning c.args.rack.now) c.args.field a.request (string_bytes a.text) c.in-Ok.label e.why e.label e.fits h.1 h.2)

@@ -6,5 +6,5 @@ use Rattle.player.proofs.pools.open_alone.Goals as goal
 
 pub returns-in-Some : goal.returns-in-Some
 returns-in-Some g c =
-    subst (λ o. IfOk c.ask-open.result (λ a. (a.plan ≡ c.args.plan) × OpenAnswered c.args.field (label_bytes c.args.bytes) (option_map g.R.Rack.meaning o) a.request (string_bytes a.text)))
-    (sym c.in-Some.is) c.ask-open.ensures
+    subst (λ o. IfOk c.ask_open.result (λ a. (a.plan ≡ c.args.plan) × OpenAnswered c.args.field (label_bytes c.args.bytes) (option_map g.R.Rack.meaning o) a.request (string_bytes a.text)))
+    (sym c.in-Some.is) c.ask_open.ensures

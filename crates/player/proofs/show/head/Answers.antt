@@ -1,4 +1,4 @@
 use Rattle.player.proofs.show.head.Goals as goal
 
 pub returns : goal.returns
-returns c = rw (← c.phase-number-number.ensures, ← c.carried-now-stripes.ensures) c.format.ensures.ok
+returns c = rw (← c.phase_number-number.ensures, ← c.carried_now-stripes.ensures) c.format.ensures.ok

@@ -14,7 +14,7 @@ loop-module-preserved g c =
     let p = c.args.plan.now in
     λ v.
     each_more (module_text (g.R.Rack.meaning c.args.rack.now) p.len (slots_of p.d p.d2)) c.loop-module.«module» _ _ _ (c.loop-module.invariant v)
-    (c.in-ok-push-module.ensures v)
+    (c.in_ok-push_module.ensures v)
 
 pub returns : goal.returns
 returns g c =

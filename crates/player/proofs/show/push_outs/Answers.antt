@@ -8,7 +8,7 @@ pub loop-module-init : goal.loop-module-init
 loop-module-init g c = λ v. each_none (out_text (g.R.Rack.meaning c.args.rack.now)) (string_bytes c.args.out.now)
 
 pub loop-module-preserved : goal.loop-module-preserved
-loop-module-preserved g c = λ v. each_more (out_text (g.R.Rack.meaning c.args.rack.now)) c.loop-module.«module» _ _ _ (c.loop-module.invariant v) (c.in-ok-push-out.ensures v)
+loop-module-preserved g c = λ v. each_more (out_text (g.R.Rack.meaning c.args.rack.now)) c.loop-module.«module» _ _ _ (c.loop-module.invariant v) (c.in_ok-push_out.ensures v)
 
 pub returns : goal.returns
 returns g c =

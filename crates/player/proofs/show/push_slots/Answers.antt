@@ -9,7 +9,7 @@ loop-slot-init g c = λ v. each_none (slot_text (g.R.Rack.meaning c.args.rack.no
 
 pub loop-slot-preserved : goal.loop-slot-preserved
 loop-slot-preserved g c =
-    λ v. each_more (slot_text (g.R.Rack.meaning c.args.rack.now) c.args.plan.now.len c.args.«module») c.loop-slot.slot _ _ _ (c.loop-slot.invariant v) (c.in-ok-push-slot.ensures v)
+    λ v. each_more (slot_text (g.R.Rack.meaning c.args.rack.now) c.args.plan.now.len c.args.«module») c.loop-slot.slot _ _ _ (c.loop-slot.invariant v) (c.in_ok-push_slot.ensures v)
 
 pub returns : goal.returns
 returns g c =

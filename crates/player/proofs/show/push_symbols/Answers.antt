@@ -9,7 +9,7 @@ pub loop-offset-preserved : goal.loop-offset-preserved
 loop-offset-preserved g c =
     λ v.
     each_more (λ o. 32 ∷ decimal ((g.R.Rack.meaning c.args.rack.now).symbol c.args.«module» c.args.slot o)) c.loop-offset.offset _ _ _ (c.loop-offset.invariant v)
-    (rw (c.symbol-at.ensures v) at c.in-ok-push-number.ensures)
+    (rw (c.symbol_at.ensures v) at c.in_ok-push_number.ensures)
 
 pub returns : goal.returns
 returns g c =

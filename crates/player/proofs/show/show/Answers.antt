@@ -12,4 +12,4 @@ returns g c =
     let head = phase_text c.args.phase c.args.carried in
     let outs = each (modules_of p.r p.d2 p.r2) (out_text w) in
     let modules = each (modules_of p.r p.d2 p.r2) (module_text w p.len (slots_of p.d p.d2)) in
-    λ v. then (head ++ outs) _ _ modules (then head _ _ outs c.in-ok-out.ensures (c.in-ok-push-outs.ensures v)) (c.in-ok-push-modules.ensures v)
+    λ v. then (head ++ outs) _ _ modules (then head _ _ outs c.in_ok-out.ensures (c.in_ok-push_outs.ensures v)) (c.in_ok-push_modules.ensures v)

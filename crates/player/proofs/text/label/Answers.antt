@@ -8,5 +8,5 @@ use Rattle.player.proofs.text.label.Goals as goal
 pub returns : goal.returns
 returns c =
     let bytes = filled c.args.label (replicate 16 0) c.write.new.bytes c.write.result refl c.write.ensures.writes in
-    then (codes "ok") (string_bytes c.in-ok-out.out) (string_bytes c.push-bytes.new.out) (hex_text (label_of c.args.label)) c.in-ok-out.ensures.ok
-    (c.in-ok-push-bytes.ensures ∙ ap (λ l. string_bytes c.in-ok-out.out ++ hex_text l) bytes)
+    then (codes "ok") (string_bytes c.in_ok-out.out) (string_bytes c.push_bytes.new.out) (hex_text (label_of c.args.label)) c.in_ok-out.ensures.ok
+    (c.in_ok-push_bytes.ensures ∙ ap (λ l. string_bytes c.in_ok-out.out ++ hex_text l) bytes)

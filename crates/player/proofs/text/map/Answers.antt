@@ -10,5 +10,5 @@ returns c =
     let p = c.args.plan.now in
     let rows = each (rows_of p.d p.d2) (row_text p) in
     then (sizes_text p ++ rows ++ homes_text p) _ _ (counts_text p)
-    (then (sizes_text p ++ rows) _ _ (homes_text p) (then (sizes_text p) _ _ rows c.in-ok-out.ensures c.in-ok-push-rows.ensures) c.in-ok-push-homes.ensures)
-    c.in-ok-push-counts.ensures
+    (then (sizes_text p ++ rows) _ _ (homes_text p) (then (sizes_text p) _ _ rows c.in_ok-out.ensures c.in_ok-push_rows.ensures) c.in_ok-push_homes.ensures)
+    c.in_ok-push_counts.ensures

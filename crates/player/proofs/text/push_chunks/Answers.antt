@@ -9,7 +9,7 @@ loop-column-init c = each_none (λ i. 32 ∷ decimal (chunk_at c.args.plan.now.d
 pub loop-column-preserved : goal.loop-column-preserved
 loop-column-preserved c =
     each_more (λ i. 32 ∷ decimal (chunk_at c.args.plan.now.d c.args.plan.now.d2 c.args.row i)) c.loop-column.column _ _ _ c.loop-column.invariant
-    (rw c.chunk-in.ensures at c.in-ok-push-number.ensures)
+    (rw c.chunk_in.ensures at c.in_ok-push_number.ensures)
 
 pub returns : goal.returns
 returns c =

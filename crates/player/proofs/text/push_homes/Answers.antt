@@ -3,4 +3,4 @@ use Rattle.player.proofs.Joins.{two}
 use Rattle.player.proofs.text.push_homes.Goals as goal
 
 pub returns : goal.returns
-returns c = two (string_bytes c.args.out.now) _ _ (10 ∷ codes "home:") _ c.in-ok-push-text.ensures c.in-ok-push-home-rows.ensures
+returns c = two (string_bytes c.args.out.now) _ _ (10 ∷ codes "home:") _ c.in_ok-push_text.ensures c.in_ok-push_home_rows.ensures

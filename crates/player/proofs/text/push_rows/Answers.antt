@@ -8,7 +8,7 @@ pub loop-row-init : goal.loop-row-init
 loop-row-init c = each_none (row_text c.args.plan.now) (string_bytes c.args.out.now)
 
 pub loop-row-preserved : goal.loop-row-preserved
-loop-row-preserved c = each_more (row_text c.args.plan.now) c.loop-row.row _ _ _ c.loop-row.invariant c.in-ok-push-row.ensures
+loop-row-preserved c = each_more (row_text c.args.plan.now) c.loop-row.row _ _ _ c.loop-row.invariant c.in_ok-push_row.ensures
 
 pub returns : goal.returns
 returns c = each_all (row_text c.args.plan.now) c.loop-row.row (rows_of c.args.plan.now.d c.args.plan.now.d2) _ _ (omega arith) c.loop-row.invariant

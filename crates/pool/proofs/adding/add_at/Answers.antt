@@ -10,9 +10,9 @@ returns-in-Some g c =
           c.in-Some.old c.args.amount c.add.result (g.R.Rack.meaning c.put.new.self) c.add.ensures.below (c.in-Some.ensures v) c.add.ensures.is put.0.after,
     )
 
-pub returns-in-default : goal.returns-in-default
-returns-in-default g c =
+pub returns-in_default : goal.returns-in_default
+returns-in_default g c =
     λ v spans.
     let A = g.F.Field.arithmetic c.args.field.now in
     let w = g.R.Rack.meaning c.args.rack.now in
-    (v, added_none A w c.args.module c.args.slot c.args.offset spans c.args.amount (c.in-default.ensures v))
+    (v, added_none A w c.args.module c.args.slot c.args.offset spans c.args.amount (c.in_default.ensures v))

@@ -15,11 +15,11 @@ loop-k-preserved g c =
     let k = c.loop-k.k in
     let was = g.R.Rack.meaning c.loop-k.rack in
     let inv = c.loop-k.invariant v spans in
-    let step = c.add-at.ensures inv.0
+    let step = c.add_at.ensures inv.0
     (more_spans A w c.args.first c.args.slot c.args.x c.args.offset c.args.change k c.args.count was c.loop-k-test.true spans inv.1) in (
       step.0,
       added_next A w c.args.first c.args.slot c.args.x c.args.offset c.args.change k c.coefficient-weight.result c.mul.result was
-          (g.R.Rack.meaning c.add-at.new.rack) inv.1 c.coefficient-weight.ensures.is c.mul.ensures.is step.1,
+          (g.R.Rack.meaning c.add_at.new.rack) inv.1 c.coefficient-weight.ensures.is c.mul.ensures.is step.1,
     )
 
 pub returns : goal.returns

@@ -4,8 +4,8 @@ use Rattle.pool.proofs.Growing.{adds}
 use Rattle.pool.proofs.Loading.{row_below, slot_of_lem}
 use Rattle.pool.proofs.carry.add_chunk.Goals as goal
 
-pub add-to-row-requires : goal.add-to-row-requires
-add-to-row-requires g c =
+pub add_to_row-requires : goal.add_to_row-requires
+add_to_row-requires g c =
     record {
       loaded = c.requires.loaded;
       inside = row_below (g.F.Field.arithmetic c.args.field.now) c.args.load.now c.requires.loaded c.args.e c.requires.within;
@@ -19,8 +19,8 @@ returns g c =
     let x = c.args.load.now in
     let w = g.R.Rack.meaning c.args.rack.now in
     let e = c.args.e in
-    let put = c.add-to-row.ensures v room lo in (
+    let put = c.add_to_row.ensures v room lo in (
       put.0,
       adds A L (scheme_of x.plan) c.args.offset w x.group.index e (chunks_at (scheme_of x.plan) w c.args.offset)
-          _ (slot_of_lem A x c.requires.loaded e c.requires.within) c.shares-at-shares.result (c.shares-at-shares.ensures v) _ put.1,
+          _ (slot_of_lem A x c.requires.loaded e c.requires.within) c.shares_at-shares.result (c.shares_at-shares.ensures v) _ put.1,
     )

@@ -6,8 +6,8 @@ use Rattle.pool.specs.Growth.{Whole}
 use Rattle.pool.proofs.Growing.{room_holds, room_below, grown_none, grown_same, part_none, part_all, row_more}
 use Rattle.pool.proofs.carry.add_to_row.Goals as goal
 
-pub overflow-add-slot : goal.overflow-add-slot
-overflow-add-slot g c = omega (arith, c.requires.loaded.base_is, c.requires.inside, layout.stripes_le c.args.load.now.plan, layout.rows_le c.args.load.now.plan)
+pub overflow_add-slot : goal.overflow_add-slot
+overflow_add-slot g c = omega (arith, c.requires.loaded.base_is, c.requires.inside, layout.stripes_le c.args.load.now.plan, layout.rows_le c.args.load.now.plan)
 
 pub loop-k-init : goal.loop-k-init
 loop-k-init g c =
@@ -37,10 +37,10 @@ loop-k-preserved g c =
     let slot : c.args.load.now.base + row ≡ p.stripes + row = ap (λ (b : ℕ). b + row) c.requires.loaded.base_is in
     let at : holds w₁ (p.d' + n) (c.args.load.now.base + row) c.args.offset ≡ true =
     room_holds A p w₁ room₁ (p.d' + n) (c.args.load.now.base + row) c.args.offset (layout.row_parity_lt plan n ln) (omega (arith, slot, c.requires.inside)) lo in
-    let put = c.add-at.ensures inv.0 room₁.order-is at in (
+    let put = c.add_at.ensures inv.0 room₁.order-is at in (
       put.0,
       row_more A L p c.args.offset lo w (room_below A p w room (g.R.Rack.bounded c.args.rack.now v)) row c.requires.inside c.args.shares n ln
-          w₁ (g.R.Rack.meaning c.add-at.new.rack) (c.args.load.now.base + row) inv.1 slot put.1,
+          w₁ (g.R.Rack.meaning c.add_at.new.rack) (c.args.load.now.base + row) inv.1 slot put.1,
     )
 
 pub returns : goal.returns

@@ -23,7 +23,7 @@ loop-offset-preserved g c =
     let x = c.args.load.now in
     let p = scheme_of x.plan in
     let inv = c.loop-offset.invariant v room in
-    let step = c.carry-at.ensures inv.0 (subst (Whole A p) (sym inv.1) room) c.loop-offset-test.true in (
+    let step = c.carry_at.ensures inv.0 (subst (Whole A p) (sym inv.1) room) c.loop-offset-test.true in (
       step.0,
       carried_more A L p (layout.promises x.plan).in_columns x.group.index c.requires.loaded.inside (inside A x c.requires.loaded)
           (g.R.Rack.meaning c.args.rack.now) (g.R.Rack.meaning c.loop-offset.rack) _ c.loop-offset.offset inv.1 step.1,

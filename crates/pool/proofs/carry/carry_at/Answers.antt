@@ -14,9 +14,9 @@ returns g c =
     let x = c.args.load.now in
     let p = scheme_of x.plan in
     let w = g.R.Rack.meaning c.args.rack.now in
-    let first = c.carry-parities.ensures v room lo in
-    let second = c.carry-chunks.ensures first.0 (subst (Whole A p) (sym first.1) room) lo in (
+    let first = c.carry_parities.ensures v room lo in
+    let second = c.carry_chunks.ensures first.0 (subst (Whole A p) (sym first.1) room) lo in (
       second.0,
       stripe_gains A L p (layout.promises x.plan).in_columns x.group.index c.requires.loaded.inside (inside A x c.requires.loaded)
-          c.args.offset w (g.R.Rack.meaning c.carry-parities.new.rack) _ first.1 second.1,
+          c.args.offset w (g.R.Rack.meaning c.carry_parities.new.rack) _ first.1 second.1,
     )

@@ -28,7 +28,7 @@ loop-e-preserved g c =
     let p = scheme_of x.plan in
     let w = g.R.Rack.meaning c.args.rack.now in
     let inv = c.loop-e.invariant v room lo in
-    let step = c.carry-chunk.ensures inv.0 (subst (Whole A p) (sym inv.1) room) lo in
+    let step = c.carry_chunk.ensures inv.0 (subst (Whole A p) (sym inv.1) room) lo in
     let n : c.loop-e.e < p.d = omega (arith, c.loop-e-test.true, c.requires.loaded.grouped.size-is) in (
       step.0,
       chunks_more A L p (layout.promises x.plan).in_columns x.group.index c.requires.loaded.inside (inside A x c.requires.loaded)

@@ -4,8 +4,8 @@ use Rattle.pool.proofs.Growing.{room_below, home_gains, no_home_gains}
 use Rattle.pool.proofs.Loading.{home_below}
 use Rattle.pool.proofs.carry.carry_parities.Goals as goal
 
-pub add-to-row-requires : goal.add-to-row-requires
-add-to-row-requires g c =
+pub add_to_row-requires : goal.add_to_row-requires
+add_to_row-requires g c =
     record { loaded = c.requires.loaded; inside = home_below (g.F.Field.arithmetic c.args.field.now) c.args.load.now c.requires.loaded }
 
 pub returns-then-load : goal.returns-then-load
@@ -16,10 +16,10 @@ returns-then-load g c =
     let x = c.args.load.now in
     let p = scheme_of x.plan in
     let w = g.R.Rack.meaning c.args.rack.now in
-    let put = c.add-to-row.ensures v room lo in (
+    let put = c.add_to_row.ensures v room lo in (
       put.0,
       home_gains A L p c.args.offset w x.group.index (λ (k : ℕ). w.symbol (p.d' + k) x.group.index c.args.offset)
-          c.if-load.true x.home c.requires.loaded.home_is c.parities-at-parities.result (c.parities-at-parities.ensures v) _ put.1,
+          c.if-load.true x.home c.requires.loaded.home_is c.parities_at-parities.result (c.parities_at-parities.ensures v) _ put.1,
     )
 
 pub returns-else-load : goal.returns-else-load

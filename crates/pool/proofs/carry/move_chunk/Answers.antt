@@ -6,12 +6,12 @@ use Rattle.pool.proofs.Growing.{room_below, stays, moves}
 use Rattle.pool.proofs.Loading.{row_below, slot_of_lem, home_below}
 use Rattle.pool.proofs.carry.move_chunk.Goals as goal
 
-pub add-to-row-requires : goal.add-to-row-requires
-add-to-row-requires g c =
+pub add_to_row-requires : goal.add_to_row-requires
+add_to_row-requires g c =
     record { loaded = c.requires.loaded; inside = home_below (g.F.Field.arithmetic c.args.field.now) c.args.load.now c.requires.loaded }
 
-pub add-to-row-requires-2 : goal.add-to-row-requires-2
-add-to-row-requires-2 g c =
+pub add_to_row-requires-2 : goal.add_to_row-requires-2
+add_to_row-requires-2 g c =
     record {
       loaded = c.requires.loaded;
       inside = row_below (g.F.Field.arithmetic c.args.field.now) c.args.load.now c.requires.loaded c.args.e c.requires.within;
@@ -40,11 +40,11 @@ returns g c =
     let p = scheme_of x.plan in
     let w = g.R.Rack.meaning c.args.rack.now in
     let e = c.args.e in
-    let first = c.add-to-row.ensures v room lo in
-    let second = c.add-to-row-2.ensures first.0 (subst (Whole A p) (sym first.1) room) lo in (
+    let first = c.add_to_row.ensures v room lo in
+    let second = c.add_to_row-2.ensures first.0 (subst (Whole A p) (sym first.1) room) lo in (
       second.0,
       moves A L p c.args.offset w x.group.index e (chunks_at p w c.args.offset)
-          _ (slot_of_lem A x c.requires.loaded e c.requires.within) c.shares-at-shares.result (c.shares-at-shares.ensures v)
+          _ (slot_of_lem A x c.requires.loaded e c.requires.within) c.shares_at-shares.result (c.shares_at-shares.ensures v)
           x.home c.requires.loaded.home_is c.if-row-load.false c.negated.result c.negated.ensures x.plan.parity2_range.1
-          (g.R.Rack.meaning c.add-to-row.new.rack) _ first.1 second.1,
+          (g.R.Rack.meaning c.add_to_row.new.rack) _ first.1 second.1,
     )

@@ -13,4 +13,4 @@ pub returns : goal.returns
 returns g c =
     λ v k h.
     shares_are (g.F.Field.arithmetic c.args.field.now) c.args.load.now c.requires.loaded (g.R.Rack.meaning c.args.rack.now) k c.args.e c.args.offset _
-    c.symbol-at-symbol.result h c.requires.within (c.loop-k.invariant.done k (omega arith)) (c.symbol-at-symbol.ensures v)
+    c.symbol_at-symbol.result h c.requires.within (c.loop-k.invariant.done k (omega arith)) (c.symbol_at-symbol.ensures v)

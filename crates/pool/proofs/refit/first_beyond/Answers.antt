@@ -14,14 +14,14 @@ loop-i-preserved g c =
     let p = scheme_of c.args.plan.now in
     let f : ℕ → Bool = λ i. holds_piece p c.args.kind c.args.module i && beyond p c.args.kind (flags c.args.out) i in
     let i = c.loop-i.i in
-    ap (lowest f) (add-one i) ∙ lowest_more f i c.loop-i.invariant (sym (c.is-beyond.ensures (omega arith)) ∙ c.if-is-beyond.false)
+    ap (lowest f) (add-one i) ∙ lowest_more f i c.loop-i.invariant (sym (c.is_beyond.ensures (omega arith)) ∙ c.if-is_beyond.false)
 
-pub returns-then-is-beyond : goal.returns-then-is-beyond
-returns-then-is-beyond g c =
+pub returns-then-is_beyond : goal.returns-then-is_beyond
+returns-then-is_beyond g c =
     let p = scheme_of c.args.plan.now in
     let f : ℕ → Bool = λ i. holds_piece p c.args.kind c.args.module i && beyond p c.args.kind (flags c.args.out) i in
     let i = c.loop-i.i in
-    sym (lowest_at f i (groups p c.args.kind) c.loop-i.invariant (sym (c.is-beyond.ensures (omega arith)) ∙ c.if-is-beyond.true) (omega arith))
+    sym (lowest_at f i (groups p c.args.kind) c.loop-i.invariant (sym (c.is_beyond.ensures (omega arith)) ∙ c.if-is_beyond.true) (omega arith))
 
 pub returns : goal.returns
 returns g c =

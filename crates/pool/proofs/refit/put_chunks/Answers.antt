@@ -10,7 +10,7 @@ pub loop-e-preserved : goal.loop-e-preserved
 loop-e-preserved g c =
     λ h.
     let inv = c.loop-e.invariant h in
-    let put = c.put-chunk.ensures inv.0 in (
+    let put = c.put_chunk.ensures inv.0 in (
       put.0,
       λ A p t i sound li grouped space codes.
           more_put A p sound t i li c.args.module c.args.offset (g.R.Rack.meaning c.args.rack.now) space c.args.group.now grouped c.args.chunks codes c.loop-e.e

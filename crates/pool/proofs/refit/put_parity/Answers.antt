@@ -10,14 +10,14 @@ returns-in-Some g c =
       put.1,
       λ p t i v sound li grouped space order are.
           parity_put (g.F.Field.arithmetic c.args.field.now) p sound t i li c.args.module c.args.offset (g.R.Rack.meaning c.args.rack.now) space
-          c.args.group.now grouped c.args.chunks v order are _ c.in-Some.k c.parity-of.result on.1 on.2 c.parity-of.ensures.is c.parity-of.ensures.below put.0.after,
+          c.args.group.now grouped c.args.chunks v order are _ c.in-Some.k c.parity_of.result on.1 on.2 c.parity_of.ensures.is c.parity_of.ensures.below put.0.after,
     )
 
-pub returns-in-default : goal.returns-in-default
-returns-in-default g c =
+pub returns-in_default : goal.returns-in_default
+returns-in_default g c =
     λ h. (
       h,
       λ p t i v sound li grouped space order are.
           no_parity (g.F.Field.arithmetic c.args.field.now) p sound t i li c.args.module c.args.offset (g.R.Rack.meaning c.args.rack.now) space
-          c.args.group.now grouped c.args.chunks v order are _ c.in-default.ensures refl,
+          c.args.group.now grouped c.args.chunks v order are _ c.in_default.ensures refl,
     )

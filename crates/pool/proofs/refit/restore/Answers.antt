@@ -12,7 +12,7 @@ pub loop-i-preserved : goal.loop-i-preserved
 loop-i-preserved g c =
     λ h.
     let inv = c.loop-i.invariant h in
-    let next = c.restore-one.ensures inv.0 in (
+    let next = c.restore_one.ensures inv.0 in (
       next.0,
       λ order was room fine going.
           next.1 order was room (omega arith) (fine c.loop-i.i (omega arith)) (inv.1 order was room (λ k lk. fine k (omega arith)) going),

@@ -13,9 +13,9 @@ loop-offset-preserved g c =
     let m = c.args.module in
     let o = c.loop-offset.offset in
     let w1 = g.R.Rack.meaning c.loop-offset.rack in
-    let w2 = g.R.Rack.meaning c.restore-at.new.rack in
+    let w2 = g.R.Rack.meaning c.restore_at.new.rack in
     let inv = c.loop-offset.invariant h in
-    let next = c.restore-at.ensures inv.0 in (
+    let next = c.restore_at.ensures inv.0 in (
       next.0,
       λ p t i out was ready room lo holds going.
           let now = inv.1 p t i out was ready room (omega arith) holds going in

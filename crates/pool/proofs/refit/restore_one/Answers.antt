@@ -18,15 +18,15 @@ returns-in-Ok g c =
     let m = c.args.module in
     let out = flags c.args.out in
     let made = c.in-Ok.ensures.prepared in
-    let group = c.restore-group.ensures h in (
+    let group = c.restore_group.ensures h in (
       group.0,
       λ order was room li fine going.
           going_next A p t out m was i _
-          (group.1 p t i out was (made.2 order) room (omega arith) (sym (c.has-piece.ensures li) ∙ c.if-has-piece.true) going),
+          (group.1 p t i out was (made.2 order) room (omega arith) (sym (c.has_piece.ensures li) ∙ c.if-has_piece.true) going),
     )
 
-pub returns-in-default : goal.returns-in-default
-returns-in-default g c =
+pub returns-in_default : goal.returns-in_default
+returns-in_default g c =
     λ h.
     let p = scheme_of c.args.plan.now in
     let t = c.args.kind in
@@ -37,15 +37,15 @@ returns-in-default g c =
       λ order was room li fine going.
           absurd
           (both_ways _ fine
-          (and_from (holds_piece p t m i) (beyond p t out i) (sym (c.has-piece.ensures li) ∙ c.if-has-piece.true)
-          (lt-ltb (parities p t) (misses p t i out) (c.in-default.ensures.prepared.0 li)))),
+          (and_from (holds_piece p t m i) (beyond p t out i) (sym (c.has_piece.ensures li) ∙ c.if-has_piece.true)
+          (lt-ltb (parities p t) (misses p t i out) (c.in_default.ensures.prepared.0 li)))),
     )
 
-pub returns-else-has-piece : goal.returns-else-has-piece
-returns-else-has-piece g c =
+pub returns-else-has_piece : goal.returns-else-has_piece
+returns-else-has_piece g c =
     λ h. (
       h,
       λ order was room li fine going.
           going_skip (g.F.Field.arithmetic c.args.field.now) (scheme_of c.args.plan.now) c.args.kind (flags c.args.out) c.args.module was c.args.index _
-          (sym (c.has-piece.ensures li) ∙ c.if-has-piece.false) going,
+          (sym (c.has_piece.ensures li) ∙ c.if-has_piece.false) going,
     )

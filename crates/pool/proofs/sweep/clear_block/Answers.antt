@@ -12,9 +12,9 @@ loop-module-preserved g c h b =
     let v = g.R.Rack.meaning c.loop-module.rack in
     let k = c.loop-module.module in
     let inv = c.loop-module.invariant h b in
-    let done = c.clear-slots.ensures inv.1
+    let done = c.clear_slots.ensures inv.1
     (blocked_at c.args.low c.args.high c.args.first c.args.last c.args.until k w v b c.loop-module.auto.module c.loop-module-test.true inv.0) in (
-      module_more c.args.low k c.args.first c.args.last c.args.until w v (g.R.Rack.meaning c.clear-slots.new.rack) c.loop-module.auto.module inv.0 done.0,
+      module_more c.args.low k c.args.first c.args.last c.args.until w v (g.R.Rack.meaning c.clear_slots.new.rack) c.loop-module.auto.module inv.0 done.0,
       done.1,
     )
 

@@ -9,9 +9,9 @@ loop-slot-init g c h b = (zeroed_no_slots c.args.module (c.args.module + 1) c.ar
 pub loop-slot-preserved : goal.loop-slot-preserved
 loop-slot-preserved g c h b =
     let inv = c.loop-slot.invariant h b in
-    let done = c.clear-slot.ensures inv.1 in (
+    let done = c.clear_slot.ensures inv.1 in (
       slot_more c.args.module c.args.first c.args.last c.loop-slot.slot c.args.until (g.R.Rack.meaning c.args.rack.now)
-          (g.R.Rack.meaning c.loop-slot.rack) (g.R.Rack.meaning c.clear-slot.new.rack) b c.loop-slot.auto.slot c.loop-slot-test.true inv.0 done.0.after,
+          (g.R.Rack.meaning c.loop-slot.rack) (g.R.Rack.meaning c.clear_slot.new.rack) b c.loop-slot.auto.slot c.loop-slot-test.true inv.0 done.0.after,
       done.1,
     )
 

@@ -6,7 +6,7 @@ use Rattle.retain.proofs.Numerals.{empty_list}
 use Rattle.retain.proofs.script.map_command.Goals as goal
 
 pub returns : goal.returns
-returns c = let h = c.in-ok-numbers.ensures in (refl, subst (Numbers c.args.text.now) (empty_list _ h.0) h.1)
+returns c = let h = c.in_ok-numbers.ensures in (refl, subst (Numbers c.args.text.now) (empty_list _ h.0) h.1)
 
-pub returns-in-err-numbers : goal.returns-in-err-numbers
-returns-in-err-numbers c = rw c.from-residual.ensures (no_numbers Name.Map c.args.text.now c.in-err-numbers.ensures)
+pub returns-in_err-numbers : goal.returns-in_err-numbers
+returns-in_err-numbers c = rw c.from-residual.ensures (no_numbers Name.Map c.args.text.now c.in_err-numbers.ensures)

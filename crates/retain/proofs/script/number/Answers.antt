@@ -19,7 +19,7 @@ returns-then-c-lt48 c n h =
 pub returns-then-n-lt65536 : goal.returns-then-n-lt65536
 returns-then-n-lt65536 c =
     let all = take_all c.loop-c.c-index c.args.word.now c.loop-c-test.false in
-    read_all c.args.word.now c.loop-c.n (omega (arith, false-eqb (length c.args.word.now) 0 c.if-is-empty.ensures))
+    read_all c.args.word.now c.loop-c.n (omega (arith, false-eqb (length c.args.word.now) 0 c.if-is_empty.ensures))
     (rw all at c.loop-c.invariant.0) (rw all at c.loop-c.invariant.1) c.if-n-lt65536.true
 
 pub returns-else-n-lt65536 : goal.returns-else-n-lt65536

@@ -6,7 +6,7 @@ use Rattle.retain.proofs.Numerals.{six_are}
 use Rattle.retain.proofs.script.plan_command.Goals as goal
 
 pub returns : goal.returns
-returns c = let h = c.in-ok-order.ensures in (refl, subst (Numbers c.args.text.now) (six_are _ h.0) h.1)
+returns c = let h = c.in_ok-order.ensures in (refl, subst (Numbers c.args.text.now) (six_are _ h.0) h.1)
 
-pub returns-in-err-order : goal.returns-in-err-order
-returns-in-err-order c = rw c.from-residual.ensures (no_numbers Name.Plan c.args.text.now c.in-err-order.ensures)
+pub returns-in_err-order : goal.returns-in_err-order
+returns-in_err-order c = rw c.from-residual.ensures (no_numbers Name.Plan c.args.text.now c.in_err-order.ensures)

@@ -6,7 +6,7 @@ use Rattle.retain.proofs.Numerals.{four_are}
 use Rattle.retain.proofs.script.put_command.Goals as goal
 
 pub returns : goal.returns
-returns c = let h = c.in-ok-module.ensures in (refl, subst (Numbers c.args.text.now) (four_are _ h.0) h.1)
+returns c = let h = c.in_ok-module.ensures in (refl, subst (Numbers c.args.text.now) (four_are _ h.0) h.1)
 
-pub returns-in-err-module : goal.returns-in-err-module
-returns-in-err-module c = rw c.from-residual.ensures (no_numbers Name.Put c.args.text.now c.in-err-module.ensures)
+pub returns-in_err-module : goal.returns-in_err-module
+returns-in_err-module c = rw c.from-residual.ensures (no_numbers Name.Put c.args.text.now c.in_err-module.ensures)

@@ -6,14 +6,14 @@ use Rattle.retain.proofs.script.rack_command.Goals as goal
 
 pub returns : goal.returns
 returns c =
-    let h = c.in-ok-order.ensures in
-    (refl, (sym c.split-word.ensures.word ∙ c.in-ok-kind.ensures, four_numbers _ _ _ c.split-word.ensures.rest h.0 h.1))
+    let h = c.in_ok-order.ensures in
+    (refl, (sym c.split_word.ensures.word ∙ c.in_ok-kind.ensures, four_numbers _ _ _ c.split_word.ensures.rest h.0 h.1))
 
-pub returns-in-err-order : goal.returns-in-err-order
-returns-in-err-order c =
-    rw c.from-residual-in-err-order.ensures
-    (no_numbers Name.Rack c.args.text.now (λ ns l k. c.in-err-order.ensures ns l (subst (λ t. Numbers t ns) (sym c.split-word.ensures.rest) k)))
+pub returns-in_err-order : goal.returns-in_err-order
+returns-in_err-order c =
+    rw c.from-residual-in_err-order.ensures
+    (no_numbers Name.Rack c.args.text.now (λ ns l k. c.in_err-order.ensures ns l (subst (λ t. Numbers t ns) (sym c.split_word.ensures.rest) k)))
 
-pub returns-in-err-kind : goal.returns-in-err-kind
-returns-in-err-kind c =
-    rw c.from-residual.ensures (no_kind c.args.text.now (λ k e. c.in-err-kind.ensures k (c.split-word.ensures.word ∙ e)))
+pub returns-in_err-kind : goal.returns-in_err-kind
+returns-in_err-kind c =
+    rw c.from-residual.ensures (no_kind c.args.text.now (λ k e. c.in_err-kind.ensures k (c.split_word.ensures.word ∙ e)))

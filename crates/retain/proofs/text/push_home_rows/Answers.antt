@@ -9,7 +9,7 @@ loop-stripe-init c = each_none (λ i. 32 ∷ decimal (home_of c.args.plan.now.d 
 pub loop-stripe-preserved : goal.loop-stripe-preserved
 loop-stripe-preserved c =
     each_more (λ i. 32 ∷ decimal (home_of c.args.plan.now.d c.args.plan.now.d2 i)) c.loop-stripe.stripe _ _ _ c.loop-stripe.invariant
-    (rw c.home-of.ensures at c.in-ok-push-number.ensures)
+    (rw c.home_of.ensures at c.in_ok-push_number.ensures)
 
 pub returns : goal.returns
 returns c =

@@ -4,7 +4,7 @@ use Rattle.retain.proofs.text.push_row.Goals as goal
 
 pub returns : goal.returns
 returns c =
-    let head = c.as-str.ensures.value ∙ c.in-ok-head.ensures.ok in
-    two (string_bytes c.args.out.now) (string_bytes c.push-text.new.out) (string_bytes c.push-chunks.new.out) (10 ∷ codes "row " ++ (decimal c.args.row ++ codes ":")) _
-    (c.in-ok-push-text.ensures ∙ ap (λ l. string_bytes c.args.out.now ++ l) head)
-    c.in-ok-push-chunks.ensures
+    let head = c.as_str.ensures.value ∙ c.in_ok-head.ensures.ok in
+    two (string_bytes c.args.out.now) (string_bytes c.push_text.new.out) (string_bytes c.push_chunks.new.out) (10 ∷ codes "row " ++ (decimal c.args.row ++ codes ":")) _
+    (c.in_ok-push_text.ensures ∙ ap (λ l. string_bytes c.args.out.now ++ l) head)
+    c.in_ok-push_chunks.ensures

@@ -7,15 +7,15 @@ use Rattle.script.proofs.parse.rack_command.Goals as goal
 pub returns : goal.returns
 returns c = (
   refl,
-  (sym c.split-word.ensures.word ∙ c.in-ok-kind.ensures, rw c.split-word.ensures.rest at c.in-ok-order.ensures),
+  (sym c.split_word.ensures.word ∙ c.in_ok-kind.ensures, rw c.split_word.ensures.rest at c.in_ok-order.ensures),
 )
 
-pub returns-in-err-order : goal.returns-in-err-order
-returns-in-err-order c =
-    rw c.from-residual-in-err-order.ensures
+pub returns-in_err-order : goal.returns-in_err-order
+returns-in_err-order c =
+    rw c.from-residual-in_err-order.ensures
     (no_command Name.Rack c.args.text.now
-    (λ k. c.in-err-order.ensures k.2.0 k.2.1 (subst (λ t. Numbers t k.2.0) (sym c.split-word.ensures.rest) k.2.2)))
+    (λ k. c.in_err-order.ensures k.2.0 k.2.1 (subst (λ t. Numbers t k.2.0) (sym c.split_word.ensures.rest) k.2.2)))
 
-pub returns-in-err-kind : goal.returns-in-err-kind
-returns-in-err-kind c =
-    rw c.from-residual.ensures (no_command Name.Rack c.args.text.now (λ k. c.in-err-kind.ensures k.0 (c.split-word.ensures.word ∙ k.1)))
+pub returns-in_err-kind : goal.returns-in_err-kind
+returns-in_err-kind c =
+    rw c.from-residual.ensures (no_command Name.Rack c.args.text.now (λ k. c.in_err-kind.ensures k.0 (c.split_word.ensures.word ∙ k.1)))

@@ -3,8 +3,8 @@ use Rattle.script.specs.Words.{hex_bytes}
 use Rattle.script.proofs.Hex.{hex_at, hex_more}
 use Rattle.script.proofs.words.hex_bytes.Goals as goal
 
-pub hex-byte-requires : goal.hex-byte-requires
-hex-byte-requires c =
+pub hex_byte-requires : goal.hex_byte-requires
+hex_byte-requires c =
     record {
       first = hex_at c.args.word.now _ c.requires.digits (omega (arith, c.requires.count));
       second = hex_at c.args.word.now _ c.requires.digits (omega (arith, c.requires.count));
@@ -13,7 +13,7 @@ hex-byte-requires c =
 pub loop-i-preserved : goal.loop-i-preserved
 loop-i-preserved c = (
   length-set c.loop-i.out c.loop-i.i _ ∙ c.loop-i.invariant.0,
-  hex_more c.args.word.now c.loop-i.out c.loop-i.i _ (omega (arith, c.requires.count)) (omega (arith, c.loop-i.invariant.0)) c.hex-byte.ensures c.loop-i.invariant.1,
+  hex_more c.args.word.now c.loop-i.out c.loop-i.i _ (omega (arith, c.requires.count)) (omega (arith, c.loop-i.invariant.0)) c.hex_byte.ensures c.loop-i.invariant.1,
 )
 
 pub returns : goal.returns

@@ -4,8 +4,8 @@ use Rattle.script.proofs.words.split_word.Goals as goal
 
 pub returns : goal.returns
 returns c =
-    let text = c.split-at.ensures.back ∙ c.spaces.ensures.value in
+    let text = c.split_at.ensures.back ∙ c.spaces.ensures.value in
     record {
-      word = c.split-at-2.ensures.front ∙ c.solid.ensures.before ∙ ap front text;
-      rest = c.split-at-2.ensures.back ∙ c.solid.ensures.after ∙ ap behind text;
+      word = c.split_at-2.ensures.front ∙ c.solid.ensures.before ∙ ap front text;
+      rest = c.split_at-2.ensures.back ∙ c.solid.ensures.after ∙ ap behind text;
     }

@@ -7,7 +7,7 @@ pub loop-e-init : goal.loop-e-init
 loop-e-init g c = λ v. begun 14 _ _ 0 0 refl refl
 
 pub loop-e-preserved : goal.loop-e-preserved
-loop-e-preserved g c = λ v. filled 14 _ _ 0 c.loop-e.e c.loop-e.a _ (omega arith) (c.loop-e.invariant v) (c.known-at.ensures v)
+loop-e-preserved g c = λ v. filled 14 _ _ 0 c.loop-e.e c.loop-e.a _ (omega arith) (c.loop-e.invariant v) (c.known_at.ensures v)
 
 pub returns : goal.returns
 returns g c =

@@ -6,8 +6,8 @@ pub returns : goal.returns
 returns g c =
     record {
       book =
-          begun g.F.Field.arithmetic g.met.F.Field.lawful g.R.Rack.valid g.R.Rack.meaning c.args.self.now c.clear-block.new.rack
-          c.stripes-stripes.result c.slots-slots.result c.stripes-stripes.ensures c.slots-slots.ensures c.clear-block.ensures
-          c.in-default.ensures;
+          begun g.F.Field.arithmetic g.met.F.Field.lawful g.R.Rack.valid g.R.Rack.meaning c.args.self.now c.clear_block.new.rack
+          c.stripes-stripes.result c.slots-slots.result c.stripes-stripes.ensures c.slots-slots.ensures c.clear_block.ensures
+          c.in_default.ensures;
       number = c.of.ensures ∙ c.stripes-stripes.ensures;
     }

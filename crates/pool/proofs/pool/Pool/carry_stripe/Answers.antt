@@ -7,14 +7,14 @@ returns-in-Some g c =
     λ held.
     refuses_phase g.F.Field.arithmetic g.met.F.Field.lawful g.R.Rack.valid g.R.Rack.meaning c.args.self.now held c.in-Some.refusal (sym c.in-Some.ensures)
 
-pub returns-in-default-load-of : goal.returns-in-default-load-of
-returns-in-default-load-of g c =
+pub returns-in_default-load_of : goal.returns-in_default-load_of
+returns-in_default-load_of g c =
     λ held.
     refuses_count g.F.Field.arithmetic g.met.F.Field.lawful g.R.Rack.valid g.R.Rack.meaning c.args.self.now held
-    c.wrong_count.result c.wrong_count.ensures (sym c.in-default.ensures) c.in-default-load-of.ensures
+    c.wrong_count.result c.wrong_count.ensures (sym c.in_default.ensures) c.in_default-load_of.ensures
 
 pub returns : goal.returns
 returns g c =
     λ held.
     carries_load g.F.Field.arithmetic g.met.F.Field.lawful g.R.Rack.valid g.R.Rack.meaning c.args.self.now held
-    c.in-Some-load-of.load c.in-Some-load-of.ensures c.carry-all.new.rack c.counts-of.result (sym c.in-default.ensures) c.carry-all.ensures c.counts-of.ensures
+    c.in-Some-load_of.load c.in-Some-load_of.ensures c.carry_all.new.rack c.counts_of.result (sym c.in_default.ensures) c.carry_all.ensures c.counts_of.ensures

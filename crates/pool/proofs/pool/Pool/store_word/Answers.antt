@@ -8,18 +8,18 @@ use Rattle.pool.proofs.WordCalled.{wrote}
 use Rattle.pool.proofs.WordWritten.{meant_of, settled_spans, staged_spans, written_settled, written_staged}
 use Rattle.pool.proofs.pool.Pool.store_word.Goals as goal
 
-pub overflow-cast-x : goal.overflow-cast-x
-overflow-cast-x g c =
+pub overflow_cast-x : goal.overflow_cast-x
+overflow_cast-x g c =
     let P = c.args.self.now.plan in
     omega (arith, x_is P c.args.chunk c.args.cell c.requires, layout.x_lt P c.args.chunk c.requires.0)
 
-pub overflow-add-row : goal.overflow-add-row
-overflow-add-row g c =
+pub overflow_add-row : goal.overflow_add-row
+overflow_add-row g c =
     let P = c.args.self.now.plan in
     omega (arith, row_is P c.args.chunk c.args.cell c.requires, (layout.promises P).in_rows c.args.chunk c.requires.0, layout.rows_le P, layout.stripes_le P, c.stripes.ensures)
 
-pub returns-then-is-staged : goal.returns-then-is-staged
-returns-then-is-staged g c =
+pub returns-then-is_staged : goal.returns-then-is_staged
+returns-then-is_staged g c =
     λ held lo lv.
     let x = c.args.self.now in
     let P = x.plan in
@@ -32,24 +32,24 @@ returns-then-is-staged g c =
     let v = c.args.symbol in
     let old = c.args.old in
     let cell = c.args.cell in
-    let slot = c.parity-slot-slot.result in
-    let n = c.parity-count-count.result in
+    let slot = c.parity_slot-slot.result in
+    let n = c.parity_count-count.result in
     let change = c.sub-change.result in
-    let meant = meant_of P A s j v old cell c.requires c.settled-kind-kind.result c.group-of-index.result slot n change c.settled-kind-kind.ensures c.group-of-index.ensures.is
-    c.parity-slot-slot.ensures c.parity-count-count.ensures c.sub-change.ensures.is in
+    let meant = meant_of P A s j v old cell c.requires c.settled_kind-kind.result c.group_of-index.result slot n change c.settled_kind-kind.ensures c.group_of-index.ensures.is
+    c.parity_slot-slot.ensures c.parity_count-count.ensures c.sub-change.ensures.is in
     let put = c.put.ensures held.rack_is_valid in
     let w = g.R.Rack.meaning c.put.new.self in
-    let added = c.add-parities.ensures put.1
+    let added = c.add_parities.ensures put.1
     (settled_spans A p all s held.kept j o v old c.requires.0 lo lv cell.column cell.row cell.x slot n change meant w put.0.after) in
-    let w' = g.R.Rack.meaning c.add-parities.new.rack in
-    let more = c.add-parities-then-is-staged.ensures added.0
+    let w' = g.R.Rack.meaning c.add_parities.new.rack in
+    let more = c.add_parities-then-is_staged.ensures added.0
     (staged_spans A p all s held.kept j o v old c.requires.0 lo lv cell.column cell.row cell.x slot n change meant w put.0.after w' added.1 c.stripes.result c.stripes.ensures) in
-    wrote g.F.Field.arithmetic g.R.Rack.valid g.R.Rack.meaning x c.add-parities-then-is-staged.new.rack j o v old more.0
+    wrote g.F.Field.arithmetic g.R.Rack.valid g.R.Rack.meaning x c.add_parities-then-is_staged.new.rack j o v old more.0
     (written_staged A p all s held.kept j o v old c.requires.0 lo lv cell.column cell.row cell.x slot n change meant w put.0.after w' added.1
-    (g.R.Rack.meaning c.add-parities-then-is-staged.new.rack) c.stripes.result c.stripes.ensures more.1 c.if-is-staged.ensures)
+    (g.R.Rack.meaning c.add_parities-then-is_staged.new.rack) c.stripes.result c.stripes.ensures more.1 c.if-is_staged.ensures)
 
-pub returns-else-is-staged : goal.returns-else-is-staged
-returns-else-is-staged g c =
+pub returns-else-is_staged : goal.returns-else-is_staged
+returns-else-is_staged g c =
     λ held lo lv.
     let x = c.args.self.now in
     let P = x.plan in
@@ -62,15 +62,15 @@ returns-else-is-staged g c =
     let v = c.args.symbol in
     let old = c.args.old in
     let cell = c.args.cell in
-    let slot = c.parity-slot-slot.result in
-    let n = c.parity-count-count.result in
+    let slot = c.parity_slot-slot.result in
+    let n = c.parity_count-count.result in
     let change = c.sub-change.result in
-    let meant = meant_of P A s j v old cell c.requires c.settled-kind-kind.result c.group-of-index.result slot n change c.settled-kind-kind.ensures c.group-of-index.ensures.is
-    c.parity-slot-slot.ensures c.parity-count-count.ensures c.sub-change.ensures.is in
+    let meant = meant_of P A s j v old cell c.requires c.settled_kind-kind.result c.group_of-index.result slot n change c.settled_kind-kind.ensures c.group_of-index.ensures.is
+    c.parity_slot-slot.ensures c.parity_count-count.ensures c.sub-change.ensures.is in
     let put = c.put.ensures held.rack_is_valid in
     let w = g.R.Rack.meaning c.put.new.self in
-    let added = c.add-parities.ensures put.1
+    let added = c.add_parities.ensures put.1
     (settled_spans A p all s held.kept j o v old c.requires.0 lo lv cell.column cell.row cell.x slot n change meant w put.0.after) in
-    wrote g.F.Field.arithmetic g.R.Rack.valid g.R.Rack.meaning x c.add-parities.new.rack j o v old added.0
+    wrote g.F.Field.arithmetic g.R.Rack.valid g.R.Rack.meaning x c.add_parities.new.rack j o v old added.0
     (written_settled A p all s held.kept j o v old c.requires.0 lo lv cell.column cell.row cell.x slot n change meant w put.0.after
-    (g.R.Rack.meaning c.add-parities.new.rack) added.1 c.if-is-staged.ensures)
+    (g.R.Rack.meaning c.add_parities.new.rack) added.1 c.if-is_staged.ensures)

@@ -24,7 +24,7 @@ loop-slot-preserved c =
     let f = c.args.self.now in let v = c.loop-slot.invariant in let i = c.loop-slot.slot in let w = f.shape.span in
     let page : ℕ → ℕ = λ s. get_or f.map.now (c.args.module * f.shape.slots + s) 0 in
     let xs = c.loop-slot.self.cells.now in let ys = c.clear.new.cells in
-    let same : c.page-start-from.result ≡ page i * w = c.page-start-from.ensures ∙ ap (λ (x : _). get_or x (c.args.module * f.shape.slots + i) 0 * w) v.1 in
+    let same : c.page_start-from.result ≡ page i * w = c.page_start-from.ensures ∙ ap (λ (x : _). get_or x (c.args.module * f.shape.slots + i) 0 * w) v.1 in
     let z : (k : ℕ) → page i * w ≤ k → k < page i * w + w → get_or ys k 0 ≡ 0 = λ k l u. c.clear.ensures.zero k (omega (arith, same)) (omega (arith, same)) in
     let b : (k : ℕ) → k < page i * w → get_or ys k 0 ≡ get_or xs k 0 = λ k u. c.clear.ensures.below k (omega (arith, same)) in
     let a : (k : ℕ) → page i * w + w ≤ k → get_or ys k 0 ≡ get_or xs k 0 = λ k l. c.clear.ensures.above k (omega (arith, same)) in

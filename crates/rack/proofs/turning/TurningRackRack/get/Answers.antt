@@ -15,4 +15,4 @@ returns-then-at-self c h =
     let m = c.args.module in let s = c.args.slot in let o = c.args.offset in let n = x.modules * x.slots + 1 in
     let p = holds_parts x.modules x.slots x.span x.on m s o c.if-not-holds.ensures in
     let lt : m * x.slots + s < x.modules * x.slots + 1 = omega (arith, slot_lt x.modules x.slots m s p.0 p.1) in
-    absurd (omega (arith, page_lt (once_below map n h.pages (m * x.slots + s) lt) p.2 h.room, c.page-start.ensures, c.if-at-self.true))
+    absurd (omega (arith, page_lt (once_below map n h.pages (m * x.slots + s) lt) p.2 h.room, c.page_start.ensures, c.if-at-self.true))

@@ -32,7 +32,7 @@ exchange-requires c =
     let x = c.args.self.now.shape in let m = c.args.module in let s = c.args.slot in
     let p = takes_parts x.order x.modules x.slots x.span x.on m s c.args.offset c.args.symbol c.if-not-takes.ensures in
     record {
-      entry-within = omega (arith, slot_lt x.modules x.slots m s p.0 p.1, c.if-last-self.false);
+      entry_within = omega (arith, slot_lt x.modules x.slots m s p.0 p.1, c.if-last-self.false);
       last_within = c.if-last-self.false;
     }
 
