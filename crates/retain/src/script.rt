@@ -123,23 +123,23 @@ fn numbers<const N: usize>(text: &[u8]) -> Option<[u16; N]>
 fn name_of(word: &[u8]) -> Option<Name>
     ensures { MatchOption result ((n : Name) → word.now ≢ spelled n) (λ n. word.now ≡ spelled n) }
 {
-    if word == b"plan" {
+    if word == b"plan".as_slice() {
         Some(Name::Plan)
-    } else if word == b"map" {
+    } else if word == b"map".as_slice() {
         Some(Name::Map)
-    } else if word == b"label" {
+    } else if word == b"label".as_slice() {
         Some(Name::Label)
-    } else if word == b"rack" {
+    } else if word == b"rack".as_slice() {
         Some(Name::Rack)
-    } else if word == b"get" {
+    } else if word == b"get".as_slice() {
         Some(Name::Get)
-    } else if word == b"put" {
+    } else if word == b"put".as_slice() {
         Some(Name::Put)
-    } else if word == b"pull-module" {
+    } else if word == b"pull-module".as_slice() {
         Some(Name::PullModule)
-    } else if word == b"fit-module" {
+    } else if word == b"fit-module".as_slice() {
         Some(Name::FitModule)
-    } else if word == b"ask" {
+    } else if word == b"ask".as_slice() {
         Some(Name::Ask)
     } else {
         None
@@ -174,9 +174,9 @@ fn label_command(text: &[u8]) -> Option<Command>
 fn kind_of(word: &[u8]) -> Option<RackKind>
     ensures { MatchOption result ((k : RackKind) → word.now ≢ kind_name k) (λ k. word.now ≡ kind_name k) }
 {
-    if word == b"flat" {
+    if word == b"flat".as_slice() {
         Some(RackKind::Flat)
-    } else if word == b"turning" {
+    } else if word == b"turning".as_slice() {
         Some(RackKind::Turning)
     } else {
         None
