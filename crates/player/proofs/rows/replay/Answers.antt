@@ -13,10 +13,10 @@ returns g c =
     let s = standing g.F.Field.arithmetic g.R.Rack.valid g.R.Rack.meaning c.args.pool.now in
     let e = standing g.F.Field.arithmetic g.R.Rack.valid g.R.Rack.meaning c.replay.new.self in
     let len : c.in_ok-told.told.len ≡ length c.args.calls.now = c.in_ok-told.ensures.len in
-    let room : length c.deref-mut.result.now ≡ length c.args.calls.now = c.deref-mut.ensures.len ∙ len in (
+    let room : length c.deref_mut.result.now ≡ length c.args.calls.now = c.deref_mut.ensures.len ∙ len in (
       h.held,
       h.same_plan,
       h.same_field,
       subst (λ told. Plays A p s c.args.calls.now told e) (sym (front_is c.in_ok-told.told.len c.replay.new.told (drop (length c.replay.new.told) c.in_ok-told.told.items) (c.replay.ensures.long ∙ room ∙ sym len)))
-          (plays_whole A p s e (length c.deref-mut.result.now) (length c.args.calls.now) c.args.calls.now c.replay.new.told (sym room) (c.replay.ensures.long ∙ room) h.plays),
+          (plays_whole A p s e (length c.deref_mut.result.now) (length c.args.calls.now) c.args.calls.now c.replay.new.told (sym room) (c.replay.ensures.long ∙ room) h.plays),
     )

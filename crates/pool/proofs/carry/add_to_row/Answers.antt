@@ -37,7 +37,7 @@ loop-k-preserved g c =
     let slot : c.args.load.now.base + row ≡ p.stripes + row = ap (λ (b : ℕ). b + row) c.requires.loaded.base_is in
     let at : holds w₁ (p.d' + n) (c.args.load.now.base + row) c.args.offset ≡ true =
     room_holds A p w₁ room₁ (p.d' + n) (c.args.load.now.base + row) c.args.offset (layout.row_parity_lt plan n ln) (omega (arith, slot, c.requires.inside)) lo in
-    let put = c.add_at.ensures inv.0 room₁.order-is at in (
+    let put = c.add_at.ensures inv.0 room₁.order_is at in (
       put.0,
       row_more A L p c.args.offset lo w (room_below A p w room (g.R.Rack.bounded c.args.rack.now v)) row c.requires.inside c.args.shares n ln
           w₁ (g.R.Rack.meaning c.add_at.new.rack) (c.args.load.now.base + row) inv.1 slot put.1,

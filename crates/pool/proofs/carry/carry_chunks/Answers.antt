@@ -29,7 +29,7 @@ loop-e-preserved g c =
     let w = g.R.Rack.meaning c.args.rack.now in
     let inv = c.loop-e.invariant v room lo in
     let step = c.carry_chunk.ensures inv.0 (subst (Whole A p) (sym inv.1) room) lo in
-    let n : c.loop-e.e < p.d = omega (arith, c.loop-e-test.true, c.requires.loaded.grouped.size-is) in (
+    let n : c.loop-e.e < p.d = omega (arith, c.loop-e-test.true, c.requires.loaded.grouped.size_is) in (
       step.0,
       chunks_more A L p (layout.promises x.plan).in_columns x.group.index c.requires.loaded.inside (inside A x c.requires.loaded)
           c.args.offset w (g.R.Rack.meaning c.loop-e.rack) _ c.loop-e.e n inv.1 step.1,
@@ -44,7 +44,7 @@ returns g c =
     let p = scheme_of x.plan in
     let w = g.R.Rack.meaning c.args.rack.now in
     let inv = c.loop-e.invariant v room lo in
-    let all : c.loop-e.e ≡ p.d = omega (arith, c.loop-e-test.false, c.loop-e.auto.e-end, c.requires.loaded.grouped.size-is) in (
+    let all : c.loop-e.e ≡ p.d = omega (arith, c.loop-e-test.false, c.loop-e.auto.e-end, c.requires.loaded.grouped.size_is) in (
       inv.0,
       chunks_all A L p (layout.promises x.plan).in_columns x.group.index c.requires.loaded.inside (inside A x c.requires.loaded)
           c.args.offset w (g.R.Rack.meaning c.loop-e.rack) c.loop-e.e all inv.1,

@@ -9,4 +9,4 @@ pub returns : goal.returns
 returns c = let h = c.in_ok-module.ensures in (refl, subst (Numbers c.args.text.now) (one_is _ h.0) h.1)
 
 pub returns-in_err-module : goal.returns-in_err-module
-returns-in_err-module c = rw c.from-residual.ensures (no_numbers Name.FitModule c.args.text.now c.in_err-module.ensures)
+returns-in_err-module c = rw c.from_residual.ensures (no_numbers Name.FitModule c.args.text.now c.in_err-module.ensures)

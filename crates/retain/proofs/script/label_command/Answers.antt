@@ -16,4 +16,4 @@ returns c =
     (refl, subst (λ n. Numbers c.args.text.now (n ∷ [])) (flagged _ c.if-flag-gt1.false) (subst (Numbers c.args.text.now) (one_is _ h.0) h.1))
 
 pub returns-in_err-flag : goal.returns-in_err-flag
-returns-in_err-flag c = rw c.from-residual.ensures (no_numbers Name.Label c.args.text.now c.in_err-flag.ensures)
+returns-in_err-flag c = rw c.from_residual.ensures (no_numbers Name.Label c.args.text.now c.in_err-flag.ensures)

@@ -9,4 +9,4 @@ pub returns : goal.returns
 returns c = let h = c.in_ok-numbers.ensures in (refl, subst (Numbers c.args.text.now) (empty_list _ h.0) h.1)
 
 pub returns-in_err-numbers : goal.returns-in_err-numbers
-returns-in_err-numbers c = rw c.from-residual.ensures (no_numbers Name.Map c.args.text.now c.in_err-numbers.ensures)
+returns-in_err-numbers c = rw c.from_residual.ensures (no_numbers Name.Map c.args.text.now c.in_err-numbers.ensures)

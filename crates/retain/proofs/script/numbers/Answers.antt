@@ -15,7 +15,7 @@ loop-i-preserved g c =
 
 pub returns-in_err-out : goal.returns-in_err-out
 returns-in_err-out g c =
-    rw c.from-residual.ensures
+    rw c.from_residual.ensures
     (λ ns e h.
     front_stuck c.args.text.now (take c.loop-i.i c.loop-i.out) c.loop-i.left.now ns c.loop-i.invariant.1
     (omega (arith, length-take-le c.loop-i.i c.loop-i.out (omega (arith, c.loop-i.invariant.0))))

@@ -9,4 +9,4 @@ pub returns : goal.returns
 returns c = let h = c.in_ok-order.ensures in (refl, subst (Numbers c.args.text.now) (six_are _ h.0) h.1)
 
 pub returns-in_err-order : goal.returns-in_err-order
-returns-in_err-order c = rw c.from-residual.ensures (no_numbers Name.Plan c.args.text.now c.in_err-order.ensures)
+returns-in_err-order c = rw c.from_residual.ensures (no_numbers Name.Plan c.args.text.now c.in_err-order.ensures)

@@ -11,9 +11,9 @@ returns c =
 
 pub returns-in_err-order : goal.returns-in_err-order
 returns-in_err-order c =
-    rw c.from-residual-in_err-order.ensures
+    rw c.from_residual-in_err-order.ensures
     (no_numbers Name.Rack c.args.text.now (λ ns l k. c.in_err-order.ensures ns l (subst (λ t. Numbers t ns) (sym c.split_word.ensures.rest) k)))
 
 pub returns-in_err-kind : goal.returns-in_err-kind
 returns-in_err-kind c =
-    rw c.from-residual.ensures (no_kind c.args.text.now (λ k e. c.in_err-kind.ensures k (c.split_word.ensures.word ∙ e)))
+    rw c.from_residual.ensures (no_kind c.args.text.now (λ k e. c.in_err-kind.ensures k (c.split_word.ensures.word ∙ e)))

@@ -19,7 +19,7 @@ returns c = (refl, subst (λ n. Numbers c.args.text.now (n ∷ [])) (flagged _ c
 
 pub returns-in_err-flag : goal.returns-in_err-flag
 returns-in_err-flag c =
-    rw c.from-residual.ensures
+    rw c.from_residual.ensures
     (no_command Name.Label c.args.text.now
     (⊎_elim (not_from_Decides _ c.is_blank.ensures c.if-is_blank.false)
     (λ k. c.in_err-flag.ensures (flag k.0 ∷ []) refl k.1)))

@@ -12,10 +12,10 @@ returns c = (
 
 pub returns-in_err-order : goal.returns-in_err-order
 returns-in_err-order c =
-    rw c.from-residual-in_err-order.ensures
+    rw c.from_residual-in_err-order.ensures
     (no_command Name.Rack c.args.text.now
     (λ k. c.in_err-order.ensures k.2.0 k.2.1 (subst (λ t. Numbers t k.2.0) (sym c.split_word.ensures.rest) k.2.2)))
 
 pub returns-in_err-kind : goal.returns-in_err-kind
 returns-in_err-kind c =
-    rw c.from-residual.ensures (no_command Name.Rack c.args.text.now (λ k. c.in_err-kind.ensures k.0 (c.split_word.ensures.word ∙ k.1)))
+    rw c.from_residual.ensures (no_command Name.Rack c.args.text.now (λ k. c.in_err-kind.ensures k.0 (c.split_word.ensures.word ∙ k.1)))

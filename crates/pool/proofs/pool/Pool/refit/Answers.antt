@@ -66,4 +66,4 @@ returns g c =
     called arithmetic valid meaning x (g.met.F.Field.lawful x.field) h c.restore.new.rack x.phase x.carried (Refit m) Done done.0
     (refit_does (arithmetic x.field) (scheme_of x.plan) (held_sound arithmetic valid meaning x h) (standing arithmetic valid meaning x) m lm pulled c.settled_kind-kind.result
     c.settled_kind-kind.ensures c.outs-out.result (c.outs-out.ensures h.rack_is_valid) h.kept (sym c.in_default.ensures) (meaning c.fit.new.self)
-    (meaning c.restore.new.rack) fit.0.after (done.1 h.order-is))
+    (meaning c.restore.new.rack) fit.0.after (done.1 h.order_is))
