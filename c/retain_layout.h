@@ -1,4 +1,4 @@
-/* The layout of a retain pool, for C. Link with liblayout.a, which `rt staticlib layout` makes.
+/* The layout of a retain pool, for C. Link with liblayout.a, which c/run.sh makes of the crate layout_c.
    Every call takes plain numbers, keeps nothing and changes nothing.
 
    A plan has six numbers:

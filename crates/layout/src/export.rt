@@ -1,4 +1,4 @@
-// The calls for C: plain numbers and byte buffers.
+// What the calls for C answer: plain numbers and byte buffers. The crate layout_c exports them.
 ghost use Rattle.std.specs.Prelude.{◌≡◌};
 ghost use Rattle.layout.specs.Exported.{number_of, place_number, counts_number};
 ghost use Rattle.layout.specs.Labels.{label_refusal};
@@ -8,8 +8,7 @@ use crate::label::Label;
 use crate::plan::Plan;
 
 /// 0 for a plan, or the number of the refusal.
-#[unsafe(no_mangle)]
-pub extern "C" fn retain_plan_check(order: u16, d: u16, r: u16, d2: u16, r2: u16, len: u16) -> u32
+pub fn retain_plan_check(order: u16, d: u16, r: u16, d2: u16, r2: u16, len: u16) -> u32
     ensures { result ≡ number_of (plan_refusal order d r d2 r2 len) }
 {
     match Plan::new(order, d, r, d2, r2, len) {
@@ -19,8 +18,7 @@ pub extern "C" fn retain_plan_check(order: u16, d: u16, r: u16, d2: u16, r2: u16
 }
 
 /// 0 for a label, or the number of the refusal.
-#[unsafe(no_mangle)]
-pub extern "C" fn retain_label_check(bytes: &[u8]) -> u32
+pub fn retain_label_check(bytes: &[u8]) -> u32
     ensures { result ≡ number_of (label_refusal bytes.now) }
 {
     match Label::read(bytes) {
@@ -30,8 +28,7 @@ pub extern "C" fn retain_label_check(bytes: &[u8]) -> u32
 }
 
 /// The place of a chunk, module * 256 + slot; 4,294,967,295 for a refused plan or chunk.
-#[unsafe(no_mangle)]
-pub extern "C" fn retain_chunk_place(
+pub fn retain_chunk_place(
     order: u16,
     d: u16,
     r: u16,
@@ -52,8 +49,7 @@ pub extern "C" fn retain_chunk_place(
 }
 
 /// What a changeover reads, data * 65,536 + parities; 4,294,967,295 for a refused plan.
-#[unsafe(no_mangle)]
-pub extern "C" fn retain_counts(order: u16, d: u16, r: u16, d2: u16, r2: u16, len: u16) -> u32
+pub fn retain_counts(order: u16, d: u16, r: u16, d2: u16, r2: u16, len: u16) -> u32
     ensures { result ≡ counts_number (plan_refusal order d r d2 r2 len) d r d2 r2 }
 {
     let Ok(plan) = Plan::new(order, d, r, d2, r2, len) else {

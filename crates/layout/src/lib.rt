@@ -1,7 +1,7 @@
 //! The layout of a retain pool: plans, where their chunks and parities lie, what a changeover reads, labels.
 #![tactic(auto)]
 
-mod export;
+pub mod export;
 pub mod label;
 mod make;
 mod numbers;
