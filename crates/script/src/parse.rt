@@ -143,9 +143,9 @@ fn label_command(text: &[u8]) -> Option<Command>
 fn kind_of(word: &[u8]) -> Option<RackKind>
     ensures { MatchOption result ((k : RackKind) → word.now ≢ kind_name k) (λ k. word.now ≡ kind_name k) }
 {
-    if word == b"flat" {
+    if word == b"flat".as_slice() {
         Some(RackKind::Flat)
-    } else if word == b"turning" {
+    } else if word == b"turning".as_slice() {
         Some(RackKind::Turning)
     } else {
         None
@@ -165,11 +165,11 @@ fn rack_command(text: &[u8]) -> Option<Command>
 fn field_of(word: &[u8]) -> Option<FieldKind>
     ensures { MatchOption result ((f : FieldKind) → word.now ≢ field_name f) (λ f. word.now ≡ field_name f) }
 {
-    if word == b"byte" {
+    if word == b"byte".as_slice() {
         Some(FieldKind::Byte)
-    } else if word == b"nibble" {
+    } else if word == b"nibble".as_slice() {
         Some(FieldKind::Nibble)
-    } else if word == b"prime" {
+    } else if word == b"prime".as_slice() {
         Some(FieldKind::Prime)
     } else {
         None
