@@ -5,7 +5,7 @@ use Rattle.player.proofs.Calling.{calls_pass, calls_more, call_written, read_non
 use Rattle.player.proofs.Parts.{no_line}
 use Rattle.player.proofs.Plays.{line_at}
 use Rattle.player.proofs.rows.gather.Goals as goal
-use Rattle.player.proofs.rows.gather.Goals.{then-not-is-passed-over+in-Some+in-ok-push, else-not-is_passed_over}
+use Rattle.player.proofs.rows.gather.Goals.{then-not-is_passed_over+in-Some+in_ok-push-in-Some, else-not-is_passed_over}
 
 pub loop-at-preserved : goal.loop-at-preserved
 loop-at-preserved c =
@@ -18,8 +18,8 @@ loop-at-preserved c =
     let here = line_at s c.split_at.result.1.now line p u c.split_at.ensures.back c.split_line-used.ensures.lines in
     let calls : CallsIn (part ++ line ∷ []) (vec_items c.if-not-is_passed_over.calls) =
     elim c.if-not-is_passed_over.branch [
-      | then-not-is-passed-over+in-Some+in-ok-push w ↦
-          subst (λ xs. CallsIn (part ++ line ∷ []) xs) (sym (ap vec_items w.calls-is ∙ w.in_ok-push.ensures.items))
+      | then-not-is_passed_over+in-Some+in_ok-push-in-Some w ↦
+          subst (λ xs. CallsIn (part ++ line ∷ []) xs) (sym (ap vec_items w.calls-is ∙ w.in_ok-push-in-Some.ensures.items))
           (calls_more line w.in-Some.call (call_written line w.parse-command.result w.in-Some.call w.parse-command.ensures (sym w.in-Some.ensures)) part (vec_items c.loop-at.calls)
           (sym w.if-not-is_passed_over.ensures) inv.3.3)
       | else-not-is_passed_over w ↦

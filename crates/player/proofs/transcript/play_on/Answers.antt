@@ -9,20 +9,20 @@ pub new-rack-requires-in-Turning : goal.new-rack-requires-in-Turning
 new-rack-requires-in-Turning c =
     let q = c.args.request in
     ordered_unrefused q.order q.modules q.slots q.length c.deref_mut-in-Turning-2.result.now c.deref_mut-in-Turning.result.now c.requires.fair
-    (omega (arith, ap length (c.deref_mut-in-Turning.ensures.value ∙ c.in_ok-cells-2.ensures.items_if_clones_equal (λ y h. h)), length-replicate {A = ℕ} ((q.modules * q.slots + 1) * q.length) 0))
-    (ap length c.deref_mut-in-Turning-2.ensures.value ∙ c.in_ok-map.ensures.0)
-    (λ k h. ap (λ l. get_or l k 0) c.deref_mut-in-Turning-2.ensures.value ∙ c.in_ok-map.ensures.1 k h)
+    (omega (arith, ap length (c.deref_mut-in-Turning.ensures.value ∙ c.in_ok-cells-in-Turning.ensures.items_if_clones_equal (λ y h. h)), length-replicate {A = ℕ} ((q.modules * q.slots + 1) * q.length) 0))
+    (ap length c.deref_mut-in-Turning-2.ensures.value ∙ c.in_ok-map-in-Turning.ensures.0)
+    (λ k h. ap (λ l. get_or l k 0) c.deref_mut-in-Turning-2.ensures.value ∙ c.in_ok-map-in-Turning.ensures.1 k h)
 
-pub returns-in_ok-cells : goal.returns-in_ok-cells
-returns-in_ok-cells c =
+pub returns-in_ok-cells-in-Flat : goal.returns-in_ok-cells-in-Flat
+returns-in_ok-cells-in-Flat c =
     let q = c.args.request in
     on_blank c.play.result c.args.plan _ (blank_rack q.order q.modules q.slots q.length) c.args.script.now c.args.from (vec_items c.args.out.now) (vec_items c.play.new.out)
-    (c.new_rack.ensures.means ∙ flat_blank q.order q.modules q.slots q.length _ c.deref_mut.result.now (c.deref_mut.ensures.value ∙ c.in_ok-cells.ensures.items_if_clones_equal (λ y h. h)))
+    (c.new-rack.ensures.means ∙ flat_blank q.order q.modules q.slots q.length _ c.deref_mut.result.now (c.deref_mut.ensures.value ∙ c.in_ok-cells-in-Flat.ensures.items_if_clones_equal (λ y h. h)))
     c.play.ensures
 
-pub returns-in_ok-map : goal.returns-in_ok-map
-returns-in_ok-map c =
+pub returns-in_ok-map-in-Turning : goal.returns-in_ok-map-in-Turning
+returns-in_ok-map-in-Turning c =
     let q = c.args.request in
     on_blank c.play-in-Turning.result c.args.plan _ (blank_rack q.order q.modules q.slots q.length) c.args.script.now c.args.from (vec_items c.args.out.now) (vec_items c.play-in-Turning.new.out)
-    (c.new-rack-in-Turning.ensures.means ∙ turned_blank q.order q.modules q.slots q.length _ c.deref_mut-in-Turning-2.result.now c.deref_mut-in-Turning.result.now (c.deref_mut-in-Turning.ensures.value ∙ c.in_ok-cells-2.ensures.items_if_clones_equal (λ y h. h)))
+    (c.new-rack-in-Turning.ensures.means ∙ turned_blank q.order q.modules q.slots q.length _ c.deref_mut-in-Turning-2.result.now c.deref_mut-in-Turning.result.now (c.deref_mut-in-Turning.ensures.value ∙ c.in_ok-cells-in-Turning.ensures.items_if_clones_equal (λ y h. h)))
     c.play-in-Turning.ensures
