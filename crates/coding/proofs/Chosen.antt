@@ -1,10 +1,10 @@
 -- The missing chunks of a group, and the parities that stand in for them. Assumes nothing.
-use Rattle.std.proofs.Common.{◌≡◌, ℕ, ◌+◌, ◌<◌, ◌≤◌, Bool, true, not, List, get_or, sym, ap, ◌∙◌, subst, arith}
+use Rattle.std.proofs.Common.{◌≡◌, ℕ, ◌+◌, ◌<◌, ◌≤◌, Bool, not, List, get_or, sym, ap, ◌∙◌, subst, arith}
 use Rattle.field.specs.Arithmetic.{Arithmetic, Lawful}
 use Rattle.field.specs.Systems.{Posed}
 use Rattle.coding.specs.declared.group.Kind.{Kind}
 use Rattle.coding.specs.Schemes.{Scheme, Sound}
-use Rattle.coding.specs.Groups.{groups, size, parities, member, chunk_of, index_of, count, nth}
+use Rattle.coding.specs.Groups.{groups, size, parities, chunk_of, index_of, count, nth}
 use Rattle.coding.specs.Words.{missing, misses, used}
 use Rattle.coding.proofs.Listed.{Lists}
 use Rattle.coding.proofs.Counting.{counted, firsts, count_le}

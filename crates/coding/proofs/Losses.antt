@@ -3,17 +3,15 @@ use Rattle.std.proofs.Common.{◌≡◌, ℕ, zero, suc, ◌+◌, ◌*◌, ◌<�
 use mathlib.Core.Logic.{by_cases}
 use native.Mathlib.Decide.{ℕ_discrete}
 use Rattle.std.proofs.lemmas.Bool.{eqb-true, eq-eqb, both_ways, cases_lt}
-use Rattle.std.proofs.lemmas.Bool.Decides.{nat_tests}
-use Rattle.field.specs.Arithmetic.{Arithmetic}
 use Rattle.layout.specs.declared.plan.Plan.{Plan}
-use Rattle.layout.specs.Placing.{stripes_of, column_at}
+use Rattle.layout.specs.Placing.{column_at}
 use Rattle.layout.specs.Promises.{counted, in_column}
 use Rattle.layout.proofs.OfPlan as layout
 use Rattle.coding.specs.declared.group.Kind.{Kind}
 use Rattle.coding.specs.declared.group.Kind.TheVariants.{Stripe, Row}
 use Rattle.coding.specs.Schemes.{scheme_of}
 use Rattle.coding.specs.Groups.{groups, size, parities, chunk_of, count}
-use Rattle.coding.specs.Words.{missing, misses}
+use Rattle.coding.specs.Words.{misses}
 use Rattle.coding.proofs.Counting.{count_none, at_most_one}
 use Rattle.coding.proofs.OfPlan as plan
 

@@ -1,5 +1,5 @@
 -- A plan gives a sound scheme over a field of its order. Assumes nothing.
-use Rattle.std.proofs.Common.{◌≡◌, ℕ, ◌+◌, ◌<◌, ◌≤◌, Bool, true, is_some, Some, None, Option, refl, arith}
+use Rattle.std.proofs.Common.{◌≡◌, ℕ, ◌<◌, ◌≤◌, Bool, true, is_some, Some, None, Option, refl, arith}
 use Rattle.field.specs.Arithmetic.{Arithmetic}
 use Rattle.layout.specs.declared.plan.Plan.{Plan}
 use Rattle.layout.proofs.OfPlan as plan
@@ -8,7 +8,7 @@ use Rattle.layout.specs.Places.{CellOf}
 use Rattle.layout.specs.declared.plan.Cell.{Cell}
 use Rattle.coding.specs.declared.group.Kind.{Kind}
 use Rattle.coding.specs.declared.group.Kind.TheVariants.{Stripe, Row}
-use Rattle.coding.specs.Schemes.{Scheme, Sound, scheme_of}
+use Rattle.coding.specs.Schemes.{Sound, scheme_of}
 use Rattle.coding.specs.Groups.{groups, size, parities, chunk_of, count}
 use Rattle.coding.specs.Words.{missing}
 use Rattle.coding.proofs.Grouping as grouping

@@ -1,8 +1,8 @@
 -- How the parities of groups go with the groups and with what the chunks hold. Assumes nothing.
-use Rattle.std.proofs.Common.{◌≡◌, ℕ, zero, suc, ◌+◌, ◌<◌, Bool, true, false, cond, not, ◌&&◌, ◌||◌, ◌≢◌, sym, refl, ap, ◌∙◌, subst}
+use Rattle.std.proofs.Common.{◌≡◌, ℕ, zero, suc, ◌<◌, Bool, true, false, cond, ◌&&◌, ◌||◌, ◌≢◌, sym, refl, ap, ◌∙◌}
 use Rattle.field.specs.Arithmetic.{Arithmetic, Lawful}
 use Rattle.field.specs.Sums.{total, minus, coefficient}
-use Rattle.field.proofs.Ring.{Field, cancel, mul-zero, moved, back}
+use Rattle.field.proofs.Ring.{cancel, mul-zero, back}
 use Rattle.field.proofs.Codes.{Code, field, code, one_number, zero_below, code_zero, code_add, code_mul, code_minus, total_below}
 use Rattle.coding.specs.Schemes.{Scheme}
 use Rattle.coding.specs.Groups.{share, parity}

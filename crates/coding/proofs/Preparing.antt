@@ -1,5 +1,5 @@
 -- What is worked out for a repair is what it needs. Assumes nothing.
-use Rattle.std.proofs.Common.{◌≡◌, ℕ, ◌+◌, ◌<◌, ◌≤◌, Bool, true, false, not, ◌&&◌, ltb, List, [], length, get_or, sym, refl, ap, ◌∙◌, subst, ⊎_elim, arith}
+use Rattle.std.proofs.Common.{◌≡◌, ℕ, ◌+◌, ◌<◌, ◌≤◌, Bool, not, ◌&&◌, ltb, List, [], length, get_or, sym, ap, ◌∙◌, subst, ⊎_elim, arith}
 use Rattle.std.proofs.lemmas.Bool.{and_left, lt-ltb, le-ltb, cases_lt}
 use Rattle.field.specs.Arithmetic.{Arithmetic, Lawful}
 use Rattle.field.specs.Systems.{Posed, Inverse}
@@ -7,7 +7,7 @@ use Rattle.layout.specs.declared.plan.Plan.{Plan}
 use Rattle.coding.specs.declared.group.Kind.{Kind}
 use Rattle.coding.specs.declared.group.Group.{Group}
 use Rattle.coding.specs.declared.repair.Repair.{Repair}
-use Rattle.coding.specs.Schemes.{Scheme, Sound, scheme_of}
+use Rattle.coding.specs.Schemes.{Sound, scheme_of}
 use Rattle.coding.specs.Groups.{groups, size, parities, chunk_of, count, nth}
 use Rattle.coding.specs.Words.{missing, misses}
 use Rattle.coding.specs.Pieces.{Grouped, Weights}

@@ -1,5 +1,5 @@
 -- What a repair answers is a word of the group's code. Assumes nothing.
-use Rattle.std.proofs.Common.{◌≡◌, ℕ, zero, suc, ◌+◌, ◌<◌, ◌≤◌, Bool, true, false, not, ◌≢◌, List, [], length, get_or, set, sym, refl, ap, ◌∙◌, subst, inr, ⊎_elim, not-suc-le-zero, arith, length-set, get_or-set_other, get_or-set_same}
+use Rattle.std.proofs.Common.{◌≡◌, ℕ, zero, suc, ◌+◌, ◌<◌, ◌≤◌, Bool, true, false, not, ◌≢◌, List, [], length, get_or, sym, refl, ap, ◌∙◌, subst, inr, ⊎_elim, not-suc-le-zero, arith, length-set, get_or-set_other, get_or-set_same}
 use mathlib.Core.Logic.{by_cases}
 use native.Mathlib.Decide.{ℕ_discrete}
 use Rattle.std.proofs.lemmas.Bool.{cases_lt, both_ways}
@@ -7,7 +7,7 @@ use Rattle.field.specs.Arithmetic.{Arithmetic, Lawful}
 use Rattle.field.specs.Sums.{total, minus, coefficient}
 use Rattle.field.specs.Systems.{at, Solves, cauchy}
 use Rattle.field.proofs.Ring as ring
-use Rattle.field.proofs.Codes.{Code, field, code, one_number, zero_below, code_zero, code_add, code_mul, zero-mul, total_below, total_rest}
+use Rattle.field.proofs.Codes.{field, code, one_number, zero_below, code_zero, code_add, code_mul, zero-mul, total_below, total_rest}
 use Rattle.rack.specs.Meaning.{Meaning, Bounded}
 use Rattle.coding.specs.declared.group.Kind.{Kind}
 use Rattle.coding.specs.declared.repair.Repair.{Repair}

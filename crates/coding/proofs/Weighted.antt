@@ -1,12 +1,12 @@
 -- Sums over the chunks of a group, with the coefficients in an array. Assumes nothing.
-use Rattle.std.proofs.Common.{◌≡◌, ℕ, ◌<◌, ◌≤◌, List, get_or, sym, ap, ◌∙◌, arith}
+use Rattle.std.proofs.Common.{◌≡◌, ℕ, List, get_or, sym, ap, ◌∙◌, arith}
 use Rattle.field.specs.Arithmetic.{Arithmetic, Lawful}
 use Rattle.field.specs.Sums.{total, coefficient}
 use Rattle.field.proofs.Codes.{zero-mul, total_rest}
 use Rattle.coding.specs.declared.group.Kind.{Kind}
 use Rattle.coding.specs.declared.group.Group.{Group}
-use Rattle.coding.specs.Schemes.{Scheme, Sound}
-use Rattle.coding.specs.Groups.{groups, size, member, chunk_of, parity}
+use Rattle.coding.specs.Schemes.{Scheme}
+use Rattle.coding.specs.Groups.{size, chunk_of}
 use Rattle.coding.specs.Pieces.{Grouped, Weights, ParityOf}
 use Rattle.coding.proofs.Parities.{total_same}
 use Rattle.coding.proofs.Grouping.{group_sum}

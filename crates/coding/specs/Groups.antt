@@ -1,6 +1,6 @@
 -- A group is a stripe with its r parities, or a row with its r' parities; its pieces are its chunks and its parities. This says which
 -- chunks a group has, what its parities are, and where they lie. Assumes nothing.
-use Rattle.std.specs.Prelude.{ℕ, zero, suc, ◌+◌, ◌*◌, ◌/◌, ◌%◌, Bool, true, false, cond, not, ◌&&◌, ◌==◌}
+use Rattle.std.specs.Prelude.{ℕ, zero, suc, ◌+◌, ◌*◌, ◌/◌, ◌%◌, Bool, cond, ◌&&◌, ◌==◌}
 use Rattle.field.specs.Arithmetic.{Arithmetic}
 use Rattle.field.specs.Sums.{total, coefficient}
 use Rattle.coding.specs.declared.group.Kind.{Kind}

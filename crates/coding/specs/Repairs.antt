@@ -11,7 +11,7 @@ use Rattle.coding.specs.declared.group.Kind.{Kind}
 use Rattle.coding.specs.declared.repair.Repair.{Repair}
 use Rattle.coding.specs.Schemes.{Scheme, Sound, scheme_of}
 use Rattle.coding.specs.Groups.{groups, size, parities, chunk_of, index_of, nth}
-use Rattle.coding.specs.Words.{missing, misses, Fixed, OneWord}
+use Rattle.coding.specs.Words.{missing, misses, Fixed}
 use Rattle.coding.specs.Pieces.{Grouped, Weights}
 use Rattle.coding.specs.Steps.{flags}
 

@@ -1,5 +1,5 @@
 -- What the steps of a repair give. Assumes nothing.
-use Rattle.std.specs.Prelude.{◌≡◌, ℕ, zero, suc, ◌+◌, ◌<◌, ◌≤◌, Bool, false, not, ◌&&◌, List, length, set, nat_lt, slice_index, slice_index_or, slice_set}
+use Rattle.std.specs.Prelude.{◌≡◌, ℕ, zero, suc, ◌+◌, ◌<◌, Bool, false, not, ◌&&◌, List, length, nat_lt, slice_index, slice_index_or, slice_set}
 use Rattle.coding.specs.declared.group.Group.{Group}
 use Rattle.coding.specs.Groups.{count, nth}
 

@@ -1,9 +1,9 @@
 -- What is left of a group where modules are out, and the word of the code that it fixes. Assumes nothing.
-use Rattle.std.specs.Prelude.{◌≡◌, ℕ, ◌+◌, ◌<◌, ◌≤◌, Bool, true, false, cond, not, ◌&&◌, nat_lt}
-use Rattle.field.specs.Arithmetic.{Arithmetic, Lawful}
+use Rattle.std.specs.Prelude.{◌≡◌, ℕ, ◌+◌, ◌<◌, ◌≤◌, Bool, true, false, not, ◌&&◌, nat_lt}
+use Rattle.field.specs.Arithmetic.{Arithmetic}
 use Rattle.rack.specs.Meaning.{Meaning}
 use Rattle.coding.specs.declared.group.Kind.{Kind}
-use Rattle.coding.specs.Schemes.{Scheme, Sound}
+use Rattle.coding.specs.Schemes.{Scheme}
 use Rattle.coding.specs.Groups.{groups, parities, member, slot_of, parity, count}
 
 -- Throughout, out tells the modules that count as out.

@@ -1,5 +1,5 @@
 -- Worked figures, one table for all libraries: each follows from the definitions that the contracts cite. Assumes nothing.
-use Rattle.std.specs.Prelude.{◌≡◌, ℕ, Bool, ◌||◌, List, [], ◌∷◌, Some, None, ◌==◌, slice_index}
+use Rattle.std.specs.Prelude.{◌≡◌, ℕ, Bool, ◌||◌, [], ◌∷◌, Some, None, ◌==◌, slice_index}
 use Rattle.field.specs.Arithmetic.{Arithmetic}
 use Rattle.field.specs.Binary.{byte, nibble}
 use Rattle.field.specs.Prime.{prime}

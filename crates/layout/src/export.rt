@@ -28,15 +28,7 @@ pub fn retain_label_check(bytes: &[u8]) -> u32
 }
 
 /// The place of a chunk, module * 256 + slot; 4,294,967,295 for a refused plan or chunk.
-pub fn retain_chunk_place(
-    order: u16,
-    d: u16,
-    r: u16,
-    d2: u16,
-    r2: u16,
-    len: u16,
-    chunk: u16,
-) -> u32
+pub fn retain_chunk_place(order: u16, d: u16, r: u16, d2: u16, r2: u16, len: u16, chunk: u16) -> u32
     ensures { result ≡ place_number (plan_refusal order d r d2 r2 len) d d2 chunk }
 {
     let Ok(plan) = Plan::new(order, d, r, d2, r2, len) else {

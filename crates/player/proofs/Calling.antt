@@ -1,5 +1,5 @@
 -- Calls that stand in a row, and what is printed for them. Assumes nothing.
-use Rattle.std.proofs.Common.{◌≡◌, ℕ, suc, ◌+◌, Bool, true, false, cond, List, [], ◌∷◌, ◌++◌, length, take, Some, None, codes, MatchBool, Option, sym, refl, ap, ◌∙◌, subst, inl, append-nil, arith, take_all}
+use Rattle.std.proofs.Common.{◌≡◌, ℕ, suc, Bool, true, false, cond, List, [], ◌∷◌, ◌++◌, length, take, Some, None, codes, MatchBool, Option, sym, refl, ap, ◌∙◌, subst, inl, append-nil, arith, take_all}
 use lib.Seq.{take-append-le}
 use Rattle.field.specs.Arithmetic.{Arithmetic}
 use Rattle.layout.specs.declared.plan.Plan.{Plan}
@@ -16,7 +16,7 @@ use Rattle.script.specs.Script.{Writes, Understood}
 use Rattle.player.specs.Holding.{call_in}
 use Rattle.player.specs.Shows.{answer_text}
 use Rattle.player.specs.Answers.{State, state, pooled, Answers}
-use Rattle.player.specs.Transcripts.{lines, passed_over, Sofar}
+use Rattle.player.specs.Transcripts.{passed_over, Sofar}
 use Rattle.player.specs.Rows.{FirstCall, CallsIn, first_text, row_text, ReadsNext}
 use Rattle.player.proofs.Printing.{passed, answered, when_true, when_false, line_joined}
 

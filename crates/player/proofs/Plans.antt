@@ -17,7 +17,7 @@ use Rattle.script.specs.declared.command.Command.TheVariants.{Plan, Rack, Lay, O
 use Rattle.script.specs.declared.command.FieldKind.{FieldKind}
 use Rattle.script.specs.declared.command.RackKind.{RackKind}
 use Rattle.player.specs.Texts.{refused_text}
-use Rattle.player.specs.Answers.{Memory, nothing, bare, pooled, rack_in, State, state, arithmetic_of, blank_rack, Says, Lays, Opens, label_bytes, opened_over, Responds}
+use Rattle.player.specs.Answers.{Memory, bare, pooled, rack_in, State, state, arithmetic_of, blank_rack, Says, Lays, Opens, label_bytes, opened_over, Responds}
 use Rattle.player.specs.Holding.{alone, started_on, memory_by, Possible, PlanSet, RackAsked, LayAnswered, OpenAnswered}
 
 at_none : (o : Option Refusal) (P : Type 0) (Q : Refusal → Type 0) → o ≡ None → P → MatchOption o P Q

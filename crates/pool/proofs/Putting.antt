@@ -1,5 +1,5 @@
 -- Putting the pieces of a group back on a module, at one offset. Assumes nothing.
-use Rattle.std.proofs.Common.{◌≡◌, ℕ, ◌+◌, ◌<◌, ◌≤◌, Bool, true, false, ◌&&◌, eqb, ltb, ◌≢◌, ◌⊎◌, List, get_or, sym, refl, ap, ◌∙◌, subst, inl, inr, ⊎_elim, not-suc-le-zero, arith}
+use Rattle.std.proofs.Common.{◌≡◌, ℕ, ◌+◌, ◌<◌, ◌≤◌, Bool, true, false, ◌&&◌, eqb, ltb, ◌≢◌, List, get_or, sym, refl, ap, ◌∙◌, subst, inl, inr, ⊎_elim, not-suc-le-zero, arith}
 use mathlib.Core.Logic.{by_cases}
 use native.Mathlib.Decide.{ℕ_discrete}
 use Rattle.std.proofs.lemmas.Bool.{and_from, and_parts, lt-ltb, ltb-true, eqb-true, eq-eqb, cond-true, cond-false, cases_Bool, cases_lt, both_ways}
@@ -9,7 +9,7 @@ use Rattle.coding.specs.declared.group.Kind.{Kind}
 use Rattle.coding.specs.declared.group.Group.{Group}
 use Rattle.coding.specs.declared.repair.Repair.{Repair}
 use Rattle.coding.specs.Schemes.{Scheme, Sound}
-use Rattle.coding.specs.Groups.{groups, size, parities, member, chunk_of, index_of, parity}
+use Rattle.coding.specs.Groups.{groups, size, member, chunk_of, index_of, parity}
 use Rattle.coding.specs.Pieces.{Grouped, ParityOf}
 use Rattle.coding.specs.Repairs.{Ready, Rebuilt}
 use Rattle.coding.proofs.Listed.{Lists}

@@ -16,7 +16,7 @@ use Rattle.pool.specs.Agrees.{Agrees}
 use Rattle.pool.specs.Effects.{Does}
 use Rattle.pool.specs.Law.{Runs}
 use Rattle.pool.specs.Openings.{laid_over}
-use Rattle.pool.specs.Pools.{standing, Held, Called, Obeys}
+use Rattle.pool.specs.Pools.{standing, Held, Obeys}
 use Rattle.pool.specs.Replays.{Law, Replays, LaidAndReplayed}
 use Rattle.pool.proofs.Runs.{plays_push, runs_answers, runs_agree, runs_step}
 use Rattle.pool.proofs.Totals.{plan_adds_up}

@@ -1,5 +1,5 @@
 -- What a pool keeps: the rack holds a fresh encoding of the book's image. Assumes nothing.
-use Rattle.std.specs.Prelude.{◌≡◌, ℕ, ◌+◌, ◌/◌, ◌<◌, ◌≤◌, Bool, true, false, cond, not, ◌&&◌, nat_lt}
+use Rattle.std.specs.Prelude.{◌≡◌, ℕ, ◌+◌, ◌/◌, ◌<◌, Bool, true, not, ◌&&◌, nat_lt}
 use Rattle.field.specs.Arithmetic.{Arithmetic}
 use Rattle.rack.specs.Meaning.{Meaning}
 use Rattle.coding.specs.declared.group.Kind.{Kind}

@@ -1,11 +1,9 @@
 -- What each call answers and leaves in memory, from any standing. Assumes nothing.
-use Rattle.std.specs.Prelude.{◌≡◌, ℕ, zero, suc, ◌+◌, ◌-◌, ◌*◌, ◌/◌, ◌<◌, ◌≤◌, Bool, true, false, cond, not, ◌&&◌, ◌||◌, MatchBool, Option, MatchOption, ◌==◌, ◌≢◌, nat_le, nat_lt}
-use Rattle.layout.specs.declared.refusal.Refusal.{Refusal}
+use Rattle.std.specs.Prelude.{◌≡◌, ℕ, suc, ◌+◌, ◌-◌, ◌*◌, ◌/◌, ◌<◌, Bool, true, false, cond, ◌&&◌, ◌||◌, MatchBool, MatchOption, ◌==◌, ◌≢◌, nat_le, nat_lt}
 use Rattle.field.specs.Arithmetic.{Arithmetic}
 use Rattle.field.specs.Sums.{total, minus, coefficient}
 use Rattle.rack.specs.Meaning.{Meaning, flagged}
-use Rattle.coding.specs.declared.group.Kind.{Kind}
-use Rattle.coding.specs.declared.group.Kind.TheVariants.{Stripe, Row}
+use Rattle.coding.specs.declared.group.Kind.TheVariants.{Row}
 use Rattle.coding.specs.Schemes.{Scheme}
 use Rattle.coding.specs.Groups.{groups, parities, member, slot_of, share, parity}
 use Rattle.coding.specs.Words.{Fixed}
@@ -15,7 +13,7 @@ use Rattle.pool.specs.declared.kinds.Call.{Call}
 use Rattle.pool.specs.declared.kinds.Call.TheVariants.{Read, Write, Pull, Refit, Begin, Carry, Ready, Close, Drop}
 use Rattle.pool.specs.declared.kinds.Answer.{Answer}
 use Rattle.pool.specs.declared.kinds.Answer.TheVariants.{Symbol, Carried, Done, Refused}
-use Rattle.pool.specs.Book.{settled, group_of, modules, refusal, carried_data, carried_parities, pulled_phase, dropped_phase}
+use Rattle.pool.specs.Book.{settled, group_of, refusal, carried_data, carried_parities, pulled_phase, dropped_phase}
 use Rattle.pool.specs.Standing.{Standing, out_of}
 
 -- the symbol of chunk c at offset o: that in the rack, or where its module is out, that of the word which the first pieces of

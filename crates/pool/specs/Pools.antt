@@ -1,5 +1,5 @@
 -- What is known of a pool, and what each of its calls promises. Assumes nothing.
-use Rattle.std.specs.Prelude.{◌≡◌, ℕ}
+use Rattle.std.specs.Prelude.{◌≡◌}
 use Rattle.field.specs.Arithmetic.{Arithmetic}
 use Rattle.rack.specs.Meaning.{Meaning}
 use Rattle.coding.specs.Schemes.{scheme_of}

@@ -1,5 +1,5 @@
 -- The law over every list of calls, of a pool as the program has it. Assumes nothing.
-use Rattle.std.specs.Prelude.{◌≡◌, ℕ, List}
+use Rattle.std.specs.Prelude.{◌≡◌, List}
 use Rattle.field.specs.Arithmetic.{Arithmetic}
 use Rattle.rack.specs.Meaning.{Meaning}
 use Rattle.layout.specs.declared.plan.Plan.{Plan}

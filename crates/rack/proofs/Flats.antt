@@ -1,10 +1,10 @@
 -- What a write to the flat row does to its meaning.
-use Rattle.std.proofs.Common.{◌≡◌, ℕ, ◌+◌, ◌*◌, ◌<◌, ◌≤◌, Bool, true, false, cond, ◌&&◌, ltb, leb, ◌≢◌, List, length, get_or, set, Some, None, sym, refl, ap, ◌∙◌, ⊎_elim, mul-le-mul_right, mul_assoc, add-mul, arith, get_or-set_other, get_or-set_same}
+use Rattle.std.proofs.Common.{◌≡◌, ℕ, ◌+◌, ◌*◌, ◌<◌, ◌≤◌, Bool, true, false, cond, ltb, leb, ◌≢◌, List, length, get_or, set, None, sym, ap, ◌∙◌, ⊎_elim, mul-le-mul_right, mul_assoc, add-mul, arith, get_or-set_other, get_or-set_same}
 use lib.Arith.{digits_lt}
 use Rattle.std.proofs.lemmas.List.{set_past}
 use Rattle.std.proofs.lemmas.Bool.{leb-true, le-leb, ltb-false, and_parts, and_from, cases_lt}
 use Rattle.rack.specs.Meaning.{stored, flagged}
-use Rattle.rack.specs.Laid.{laid, fair, Fair}
+use Rattle.rack.specs.Laid.{fair}
 use Rattle.rack.specs.Flat.{at, flat, flat_fits, flat_refusal, FlatSound}
 use Rattle.rack.proofs.Laids.{same_high, same_low, unless_none, unless_true, fair_parts, fair_from, fair_flags, laid_put, laid_flag}
 

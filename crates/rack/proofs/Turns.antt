@@ -1,12 +1,12 @@
 -- What a turn of a page does to the meaning.
-use Rattle.std.proofs.Common.{◌≡◌, ℕ, suc, ◌+◌, ◌*◌, ◌<◌, ◌≤◌, Bool, true, false, cond, not, ◌&&◌, ◌||◌, eqb, ltb, leb, ◌≢◌, ◌⊎◌, List, length, get_or, set, Some, None, Decides, sym, refl, ap, ◌∙◌, subst, inl, inr, ⊎_elim, mul-le-mul_right, add-mul, add-one, arith, length-set, get_or-set_other, get_or-set_same}
+use Rattle.std.proofs.Common.{◌≡◌, ℕ, ◌+◌, ◌*◌, ◌<◌, ◌≤◌, Bool, true, false, cond, not, ◌&&◌, ◌||◌, eqb, ltb, leb, ◌≢◌, ◌⊎◌, List, length, get_or, set, None, Decides, sym, refl, ap, ◌∙◌, subst, inl, inr, ⊎_elim, mul-le-mul_right, add-mul, add-one, arith, length-set, get_or-set_other, get_or-set_same}
 use lib.Arith.{digits_lt}
 use Rattle.std.proofs.lemmas.Bool.{leb-true, le-leb, eq-eqb, ne_eqb, and_parts, and_from, cond-true, cond-false, cases_eq, cases_lt, cases_Bool, cases_order, lt-ltb, or_left, not_from_false}
 use Rattle.std.proofs.lemmas.Bool.Decides.{nat_tests, Decides-eqb, Decides-ltb, Decides-not, Decides-and, Decides-below_and, Decides-below_or}
 use Rattle.rack.specs.declared.shape.Shape.{Shape}
 use Rattle.rack.specs.Meaning.{takes, fits, stored, flagged, Puts, Fits}
 use Rattle.rack.specs.Shaped.{marked}
-use Rattle.rack.specs.Laid.{laid, fair, Fair}
+use Rattle.rack.specs.Laid.{fair}
 use Rattle.rack.specs.Turning.{paged, turned, named, each_once, turn_fits, turn_refusal, exchanged, TurnSound}
 use Rattle.rack.proofs.Laids.{same_high, same_low, slot_lt, unless_none, unless_true, fair_parts, fair_from, fair_flags, laid_put, laid_flag, takes_laid, fits_laid, empty_parts}
 

@@ -1,11 +1,10 @@
 -- What the arguments of a command are, by its name. Assumes nothing.
-use Rattle.std.proofs.Common.{◌≡◌, ℕ, List, [], ◌∷◌, length, get_or, sym, refl, ap, ◌∙◌, subst, arith}
+use Rattle.std.proofs.Common.{◌≡◌, ℕ, List, [], ◌∷◌, length, get_or, refl, ap, ◌∙◌, subst, arith}
 use Rattle.retain.specs.declared.script.Command.{Command}
 use Rattle.retain.specs.declared.script.Command.TheVariants.{Plan, Map, Label, Rack, OnRack}
 use Rattle.retain.specs.declared.script.RackCall.TheVariants.{Get, Put, Pull, Fit, Ask}
 use Rattle.retain.specs.declared.script.RackKind.{RackKind}
 use Rattle.retain.specs.declared.script.Name.{Name}
-use Rattle.retain.specs.declared.script.Name.TheVariants as Name
 use Rattle.retain.specs.Script.{flag, kind_name, name_of, Arguments}
 use Rattle.retain.specs.Words.{word, rest, Numbers}
 use Rattle.retain.proofs.Numerals.{four_are}

@@ -1,5 +1,5 @@
 -- A label that is written into a buffer of its length. Assumes nothing.
-use Rattle.std.proofs.Common.{◌≡◌, ℕ, List, length, Ok, Err, Result, refl}
+use Rattle.std.proofs.Common.{◌≡◌, ℕ, List, length, Ok, Err, Result}
 use Rattle.layout.specs.declared.label.Label.{Label}
 use Rattle.layout.specs.declared.refusal.Refusal.{Refusal}
 use Rattle.layout.specs.Labels.{label_of, Writes}

@@ -1,6 +1,5 @@
 -- A script, line by line. Assumes nothing.
-use Rattle.std.proofs.Common.{◌≡◌, ℕ, zero, suc, ◌+◌, ◌<◌, ◌≤◌, Bool, true, false, cond, eqb, List, [], ◌∷◌, ◌++◌, length, get_or, take, drop, codes, MatchBool, sym, refl, ap, ◌∙◌, subst, append_assoc, append-nil, suc-le-suc, zero-le, le_of_suc-le-suc, not-suc-le-zero, add-one, arith, length-drop, drop-drop, eq-eqb, ne_eqb}
-use native.Mathlib.Nat.{suc_inj}
+use Rattle.std.proofs.Common.{◌≡◌, ℕ, zero, suc, ◌+◌, ◌<◌, ◌≤◌, Bool, true, false, eqb, List, [], ◌∷◌, ◌++◌, length, get_or, take, drop, codes, MatchBool, sym, refl, ap, ◌∙◌, subst, append_assoc, append-nil, suc-le-suc, zero-le, le_of_suc-le-suc, not-suc-le-zero, add-one, arith, length-drop, eq-eqb, ne_eqb}
 use Rattle.std.proofs.lemmas.Bool.{cond-true, cond-false}
 use Rattle.retain.specs.Answers.{Bench, Answers}
 use Rattle.retain.specs.Transcripts.{on_first, lines, passed_over, LinePrinted, Printed, Sofar}

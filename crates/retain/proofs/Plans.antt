@@ -1,5 +1,5 @@
 -- What lines that set a plan or ask for a rack answer. Assumes nothing.
-use Rattle.std.proofs.Common.{◌≡◌, ℕ, Bool, true, false, cond, List, Some, None, Ok, Err, codes, Option, Result, sym, refl, ap, ◌∙◌, subst, MatchOption}
+use Rattle.std.proofs.Common.{◌≡◌, ℕ, Bool, true, false, List, Some, None, Ok, Err, codes, Option, Result, sym, refl, ap, subst, MatchOption}
 use Rattle.layout.specs.declared.plan.Plan as layout-plan
 use Rattle.layout.specs.declared.refusal.Refusal.{Refusal}
 use Rattle.layout.specs.Refusals.{plan_refusal, Has, Judged}

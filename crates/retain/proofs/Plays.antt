@@ -1,14 +1,14 @@
 -- A script, rack by rack. Assumes nothing.
-use Rattle.std.proofs.Common.{◌≡◌, ℕ, zero, suc, ◌+◌, ◌*◌, ◌<◌, ◌≤◌, Bool, true, false, List, [], ◌∷◌, ◌++◌, length, get_or, drop, replicate, is_some, IfOk, Some, None, Option, Result, sym, refl, ap, ◌∙◌, subst, ⊎_elim, arith, drop-drop}
+use Rattle.std.proofs.Common.{◌≡◌, ℕ, zero, suc, ◌+◌, ◌*◌, ◌<◌, ◌≤◌, true, false, List, [], ◌∷◌, ◌++◌, length, get_or, drop, replicate, is_some, IfOk, Some, None, Option, Result, sym, refl, ap, ◌∙◌, subst, ⊎_elim, arith, drop-drop}
 use lib.ListN.{get_or-append}
 use lib.Seq.{get_or-append_seam}
 use Rattle.std.specs.declared.alloc.AllocError.{AllocError}
 use Rattle.std.proofs.lemmas.Bool.{cases_lt}
 use Rattle.layout.specs.declared.plan.Plan.{Plan}
 use Rattle.rack.specs.Meaning.{Meaning}
-use Rattle.rack.specs.Laid.{laid, fair, unless}
+use Rattle.rack.specs.Laid.{laid, fair}
 use Rattle.rack.specs.Flat.{at, flat}
-use Rattle.rack.specs.Turning.{paged, turned, turn_refusal, TurnSound}
+use Rattle.rack.specs.Turning.{turned, turn_refusal}
 use Rattle.rack.proofs.Laids.{fair_parts}
 use Rattle.rack.proofs.Turns.{once_from, turn_unrefused}
 use Rattle.retain.specs.declared.answer.RackRequest.{RackRequest}

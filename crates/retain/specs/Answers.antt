@@ -1,5 +1,5 @@
 -- What the program answers to a command, and the plan that it uses from then on. Assumes nothing.
-use Rattle.std.specs.Prelude.{◌≡◌, ℕ, Bool, true, false, cond, ◌⊎◌, List, [], ◌∷◌, ◌++◌, replicate, Some, None, codes, decimal, Option, MatchOption}
+use Rattle.std.specs.Prelude.{◌≡◌, ℕ, Bool, true, cond, ◌⊎◌, List, ◌∷◌, ◌++◌, replicate, Some, None, codes, decimal, Option, MatchOption}
 use Rattle.layout.specs.declared.plan.Plan as layout-plan
 use Rattle.layout.specs.declared.refusal.Refusal.{Refusal}
 use Rattle.layout.specs.declared.refusal.Layer.{Layer}

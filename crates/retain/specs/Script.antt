@@ -4,10 +4,8 @@ use Rattle.retain.specs.declared.script.Command.{Command}
 use Rattle.retain.specs.declared.script.Command.TheVariants.{Plan, Map, Label, Rack, OnRack}
 use Rattle.retain.specs.declared.script.RackKind.{RackKind}
 use Rattle.retain.specs.declared.script.RackKind.TheVariants.{Flat, Turning}
-use Rattle.retain.specs.declared.script.RackCall.{RackCall}
 use Rattle.retain.specs.declared.script.RackCall.TheVariants.{Get, Put, Pull, Fit, Ask}
 use Rattle.retain.specs.declared.script.Name.{Name}
-use Rattle.retain.specs.declared.script.Name.TheVariants as Name
 use Rattle.retain.specs.Words.{word, rest, Numbers}
 
 abbrev pub flag : Bool → ℕ

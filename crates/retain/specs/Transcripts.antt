@@ -1,5 +1,5 @@
 -- What the program prints for a whole script. Assumes nothing.
-use Rattle.std.specs.Prelude.{◌≡◌, ℕ, ◌<◌, ◌≤◌, Bool, true, false, cond, List, [], ◌∷◌, ◌++◌, length, drop, codes, MatchBool, Option, MatchOption, ◌==◌}
+use Rattle.std.specs.Prelude.{◌≡◌, ℕ, ◌<◌, ◌≤◌, Bool, true, cond, List, [], ◌∷◌, ◌++◌, length, drop, codes, MatchBool, Option, MatchOption, ◌==◌}
 use Rattle.retain.specs.declared.answer.RackRequest.{RackRequest}
 use Rattle.retain.specs.Answers.{Bench, Answers}
 use Rattle.retain.specs.Benches.{Makeable}

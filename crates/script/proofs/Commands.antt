@@ -6,7 +6,6 @@ use Rattle.script.specs.declared.command.FieldKind.{FieldKind}
 use Rattle.script.specs.declared.command.RackCall.TheVariants.{Get, Put, Pull, Fit, Ask}
 use Rattle.script.specs.declared.command.RackKind.{RackKind}
 use Rattle.script.specs.declared.command.Name.{Name}
-use Rattle.script.specs.declared.command.Name.TheVariants as Name
 use Rattle.pool.specs.declared.kinds.Call.TheVariants as Call
 use Rattle.script.specs.Plain.{Plain, arity}
 use Rattle.layout.specs.Labels.{flag}

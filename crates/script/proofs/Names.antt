@@ -1,7 +1,6 @@
 -- The list of all names. Assumes nothing.
 use Rattle.std.proofs.Common.{◌≡◌, ℕ, ◌<◌, List, [], ◌∷◌, get_or, refl, lit<}
 use Rattle.script.specs.declared.command.Name.{Name}
-use Rattle.script.specs.declared.command.Name.TheVariants as Name
 
 abbrev pub names : List Name
 names = Name.Plan ∷ Name.Map ∷ Name.Label ∷ Name.Rack ∷ Name.Get ∷ Name.Put ∷ Name.PullModule ∷ Name.FitModule ∷ Name.Ask ∷ Name.Lay ∷ Name.Open ∷ Name.Read ∷ Name.Write ∷ Name.Pull ∷ Name.Refit ∷ Name.Begin ∷ Name.Carry ∷ Name.Ready ∷ Name.Close ∷ Name.Drop ∷ Name.Show ∷ []

@@ -1,9 +1,8 @@
 -- The commands that are a name and numbers, for the inner functions that read them. No contract of a public call rests on it.
 -- Assumes nothing.
-use Rattle.std.specs.Prelude.{◌≡◌, ℕ, List, map, ◌≢◌, slice_index}
+use Rattle.std.specs.Prelude.{ℕ, List, map, ◌≢◌, slice_index}
 use Rattle.std.specs.List.{range_with_len}
 use Rattle.script.specs.declared.command.Name.{Name}
-use Rattle.script.specs.declared.command.Name.TheVariants as Name
 
 -- after each name but these stand numbers alone
 abbrev pub Plain : Name → Type 0

@@ -10,7 +10,6 @@ use Rattle.script.specs.declared.command.RackKind.{RackKind}
 use Rattle.script.specs.declared.command.RackKind.TheVariants.{Flat, Turning}
 use Rattle.script.specs.declared.command.RackCall.TheVariants.{Get, Put, Pull, Fit, Ask}
 use Rattle.script.specs.declared.command.Name.{Name}
-use Rattle.script.specs.declared.command.Name.TheVariants as Name
 use Rattle.script.specs.Words.{word, rest, Numbers, HexWord}
 
 -- how a name, a kind of rack and a field are spelled

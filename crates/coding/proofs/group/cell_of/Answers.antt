@@ -1,10 +1,9 @@
-use Rattle.std.proofs.Common.{◌≡◌, ℕ, ◌<◌, Some, Option, sym, ap, ◌∙◌, subst, arith}
+use Rattle.std.proofs.Common.{ℕ, ◌<◌, Some, Option, sym, ap, ◌∙◌, subst, arith}
 use Rattle.layout.specs.declared.plan.Cell.{Cell}
 use Rattle.layout.specs.Placing.{chunks_of}
 use Rattle.layout.specs.Places.{CellOf}
 use Rattle.layout.proofs.OfPlan as layout
 use Rattle.coding.specs.Schemes.{scheme_of}
-use Rattle.coding.specs.Groups.{chunk_of}
 use Rattle.coding.proofs.OfPlan as plan
 use Rattle.coding.proofs.group.cell_of.Goals as goal
 

@@ -1,7 +1,5 @@
-use Rattle.std.proofs.Common.{◌<◌, ◌≤◌, arith}
+use Rattle.std.proofs.Common.{◌≤◌, arith}
 use Rattle.std.proofs.lemmas.Nat.{mul-le}
-use Rattle.coding.specs.Groups.{groups}
-use Rattle.coding.specs.Schemes.{scheme_of}
 use Rattle.coding.proofs.OfPlan as plan
 use Rattle.coding.proofs.group.chunk_of.Goals as goal
 

@@ -1,4 +1,4 @@
-use Rattle.std.proofs.Common.{◌≡◌, ℕ, ◌<◌, sym, refl, ap, ◌∙◌, subst, arith}
+use Rattle.std.proofs.Common.{◌≡◌, ◌<◌, refl, ◌∙◌, arith}
 use Rattle.coding.proofs.Loops.{filled, begun}
 use Rattle.coding.proofs.OfPlan as plan
 use Rattle.coding.proofs.group.made.Goals as goal

@@ -1,4 +1,4 @@
-use Rattle.std.proofs.Common.{◌≡◌, ℕ, ◌<◌}
+use Rattle.std.proofs.Common.{◌≡◌, ℕ}
 use Rattle.coding.specs.Schemes.{Scheme, scheme_of}
 use Rattle.coding.specs.Groups.{chunk_of}
 use Rattle.coding.proofs.Loops.{Filled}

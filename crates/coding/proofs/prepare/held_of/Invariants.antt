@@ -1,4 +1,4 @@
-use Rattle.std.proofs.Common.{◌≡◌, ◌+◌, false, not, ◌&&◌, ltb, get_or}
+use Rattle.std.proofs.Common.{◌≡◌, ◌+◌, false, not, ◌&&◌, ltb}
 use Rattle.coding.specs.Steps.{flags}
 use Rattle.coding.proofs.Loops.{Filled}
 use Rattle.coding.proofs.prepare.held_of.Given as goal

@@ -1,4 +1,4 @@
-use Rattle.std.proofs.Common.{◌≡◌, ◌<◌, true, false, length, get_or, sym, refl, ◌∙◌, arith, length-set}
+use Rattle.std.proofs.Common.{◌<◌, true, false, length, get_or, sym, refl, ◌∙◌, arith, length-set}
 use Rattle.std.proofs.lemmas.List.{get_or-replicate}
 use Rattle.rack.proofs.Turns.{named_parts, named_more, once_more, once_stops}
 use Rattle.rack.proofs.pages.all_once.Goals as goal

@@ -1,4 +1,4 @@
-use Rattle.std.proofs.Common.{◌≡◌, ℕ, ◌+◌, ◌*◌, ◌<◌, ◌≤◌, ◌≢◌, length, get_or, set, refl, ◌∙◌, ⊎_elim, arith, get_or-set_other, get_or-set_same}
+use Rattle.std.proofs.Common.{◌≡◌, ℕ, ◌+◌, ◌*◌, ◌<◌, ◌≤◌, ◌≢◌, length, refl, ◌∙◌, ⊎_elim, arith, get_or-set_other, get_or-set_same}
 use Rattle.rack.proofs.Turns.{pages_apart}
 use Rattle.rack.proofs.pages.turn.Goals as goal
 

@@ -1,4 +1,4 @@
-use Rattle.std.proofs.Common.{length, sym, inl, inr, arith, take_all, false-eqb}
+use Rattle.std.proofs.Common.{length, inl, inr, arith, take_all, false-eqb}
 use Rattle.retain.proofs.Numerals.{more_digits, more_value, stuck, read_all, too_large}
 use Rattle.retain.proofs.script.number.Goals as goal
 use Rattle.retain.proofs.script.number.Goals.{then-c-lt48-via-then-c-lt48, then-c-lt48-via-else-c-lt48+then-c-gt57}

@@ -1,4 +1,4 @@
-use Rattle.std.proofs.Common.{◌≡◌, ℕ, ◌<◌, ◌≤◌, length, take, sym, refl, ap, ◌∙◌, subst, add-one, arith, length-set, length-take-le, take_all, take-suc-set, true-eqb, false-eqb}
+use Rattle.std.proofs.Common.{◌<◌, length, take, sym, refl, ap, ◌∙◌, subst, add-one, arith, length-set, length-take-le, take_all, take-suc-set, true-eqb, false-eqb}
 use lib.ListN.{length-replicate}
 use Rattle.retain.specs.Words.{Numbered}
 use Rattle.retain.proofs.Numerals.{Front, front_more, front_all, front_stuck, front_long, empty_list}

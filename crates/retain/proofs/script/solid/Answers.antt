@@ -1,4 +1,4 @@
-use Rattle.std.proofs.Common.{◌≡◌, length, sym, ◌∙◌, arith}
+use Rattle.std.proofs.Common.{◌≡◌, length, ◌∙◌, arith}
 use Rattle.retain.proofs.Splits.{front_step, front_stop, front_end, behind_step, behind_stop, behind_end}
 use Rattle.retain.proofs.script.solid.Goals as goal
 

@@ -1,4 +1,4 @@
-use Rattle.std.proofs.Common.{◌≡◌, length, sym, ◌∙◌, arith}
+use Rattle.std.proofs.Common.{◌≡◌, length, ◌∙◌, arith}
 use Rattle.retain.proofs.Splits.{trim_step, trim_stop, trim_end}
 use Rattle.retain.proofs.script.spaces.Goals as goal
 

@@ -1,4 +1,4 @@
-use Rattle.std.proofs.Common.{◌≡◌, sym, ap, ◌∙◌}
+use Rattle.std.proofs.Common.{ap, ◌∙◌}
 use Rattle.retain.specs.Words.{front, behind}
 use Rattle.retain.proofs.script.split_word.Goals as goal
 

@@ -1,4 +1,4 @@
-use Rattle.std.proofs.Common.{◌≡◌, List, [], ◌∷◌, ◌++◌, string_bytes, ap, ◌∙◌}
+use Rattle.std.proofs.Common.{[], ◌∷◌, string_bytes}
 use Rattle.retain.proofs.Joins.{three}
 use Rattle.retain.proofs.text.push_byte.Goals as goal
 

@@ -1,4 +1,4 @@
-use Rattle.std.proofs.Common.{◌≡◌, ℕ, ◌∷◌, string_bytes, decimal, arith}
+use Rattle.std.proofs.Common.{◌∷◌, string_bytes, decimal, arith}
 use Rattle.layout.specs.Placing.{chunk_at}
 use Rattle.retain.proofs.Joins.{each_more, each_none, each_all}
 use Rattle.retain.proofs.text.push_chunks.Goals as goal

@@ -1,4 +1,4 @@
-use Rattle.std.proofs.Common.{◌≡◌, ◌∷◌, string_bytes, decimal, arith}
+use Rattle.std.proofs.Common.{◌∷◌, string_bytes, decimal, arith}
 use Rattle.layout.specs.Placing.{home_of, stripes_of}
 use Rattle.retain.proofs.Joins.{each_more, each_none, each_all}
 use Rattle.retain.proofs.text.push_home_rows.Goals as goal

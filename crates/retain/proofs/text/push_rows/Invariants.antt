@@ -1,4 +1,4 @@
-use Rattle.std.proofs.Common.{◌≡◌, ◌∷◌, ◌++◌, string_bytes}
+use Rattle.std.proofs.Common.{◌≡◌, ◌++◌, string_bytes}
 use Rattle.retain.specs.Answers.{row_text}
 use Rattle.retain.specs.Texts.{each}
 use Rattle.retain.proofs.text.push_rows.Given as goal

@@ -1,4 +1,4 @@
-use Rattle.std.proofs.Common.{◌≡◌, ◌+◌, [], ◌∷◌, length, get_or, vec_items, sym, ap, ◌∙◌, subst, arith, length-append}
+use Rattle.std.proofs.Common.{◌+◌, [], ◌∷◌, length, get_or, vec_items, ap, ◌∙◌, length-append}
 use Rattle.retain.proofs.Plays.{in_order}
 use Rattle.retain.proofs.transcript.ordered.Goals as goal
 

@@ -1,4 +1,4 @@
-use Rattle.std.proofs.Common.{ℕ, ◌+◌, ◌*◌, length, get_or, vec_items, sym, ap, ◌∙◌, subst, arith}
+use Rattle.std.proofs.Common.{ℕ, ◌+◌, ◌*◌, length, get_or, vec_items, ap, ◌∙◌, arith}
 use lib.ListN.{length-replicate}
 use Rattle.retain.specs.Answers.{blank_rack}
 use Rattle.retain.proofs.Plays.{flat_blank, turned_blank, ordered_unrefused, played_on}

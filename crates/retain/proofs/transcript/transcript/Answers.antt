@@ -1,4 +1,4 @@
-use Rattle.std.proofs.Common.{[], drop, Some, None, vec_items, sym, ap, ◌∙◌, subst}
+use Rattle.std.proofs.Common.{drop, Some, None, vec_items, sym, subst}
 use Rattle.retain.specs.Answers.{bench}
 use Rattle.retain.specs.Benches.{rack_by}
 use Rattle.retain.specs.Transcripts.{lines, Sofar}

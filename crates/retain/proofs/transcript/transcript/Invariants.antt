@@ -1,5 +1,5 @@
-use Rattle.std.proofs.Common.{ℕ, List, length, drop, None, vec_items}
-use Rattle.retain.specs.Answers.{Bench, bench}
+use Rattle.std.proofs.Common.{length, drop, None, vec_items}
+use Rattle.retain.specs.Answers.{bench}
 use Rattle.retain.specs.Benches.{rack_by}
 use Rattle.retain.specs.Transcripts.{lines, Sofar, Ends}
 use Rattle.retain.proofs.transcript.transcript.Given as goal

@@ -1,4 +1,4 @@
-use Rattle.std.proofs.Common.{◌≡◌, ℕ, ◌+◌, get_or, set, sym, ap, ◌∙◌, add-one}
+use Rattle.std.proofs.Common.{ℕ, get_or, set, sym, ap, ◌∙◌, add-one}
 use Rattle.coding.specs.Steps.{scattered}
 use Rattle.coding.proofs.repair.Repair.joined.Goals as goal
 

@@ -1,4 +1,4 @@
-use Rattle.std.proofs.Common.{◌≡◌, sym, refl, ap, ◌∙◌, subst, arith}
+use Rattle.std.proofs.Common.{refl, ◌∙◌, arith}
 use Rattle.coding.proofs.Loops.{filled, begun}
 use Rattle.coding.proofs.repair.Repair.sides.Goals as goal
 

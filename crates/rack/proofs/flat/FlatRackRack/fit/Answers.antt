@@ -1,4 +1,4 @@
-use Rattle.std.proofs.Common.{◌+◌, ◌*◌, true, get_or, sym, ap, ◌∙◌, subst, arith, length-set}
+use Rattle.std.proofs.Common.{true, get_or, sym, ap, ◌∙◌, subst, arith, length-set}
 use Rattle.std.proofs.lemmas.Bool.{cond-true}
 use Rattle.rack.specs.Flat.{at, flat, FlatSound}
 use Rattle.rack.proofs.Laids.{empty_parts, fits_laid}
