@@ -1,14 +1,14 @@
 // What a changeover in hand is held by: an order from its begin on, and a ready order from its ready on.
 ghost use Rattle.std.specs.Prelude.{◌≡◌};
 
-/// A changeover that has begun. It is made ready or dropped, and may not be let go: nothing meets what letting it go requires.
-/// It bears no mark of its pool.
+/// A changeover that has begun. It is made ready or dropped, and cannot be let go: it is not `Drop`, so the check refuses a program
+/// that lets one go. It bears no mark of its pool.
 pub struct Order {
     /// how many stripes there were to carry
     stripes: u16,
 }
 
-/// A changeover that may be closed. It is closed or dropped, and may not be let go.
+/// A changeover that may be closed. It is closed or dropped, and cannot be let go: it is not `Drop`.
 pub struct ReadyOrder {
     /// how many stripes there were to carry
     stripes: u16,
@@ -18,14 +18,6 @@ pub struct ReadyOrder {
 pub enum AnyOrder {
     Begun(Order),
     Made(ReadyOrder),
-}
-
-impl Drop for Order {
-    fn drop(self)
-        requires { ⊥ }
-    {
-        let Order { stripes: _ } = self;
-    }
 }
 
 impl Order {
@@ -56,14 +48,6 @@ impl Order {
         ensures { result ≡ self.now.stripes }
     {
         self.stripes
-    }
-}
-
-impl Drop for ReadyOrder {
-    fn drop(self)
-        requires { ⊥ }
-    {
-        let ReadyOrder { stripes: _ } = self;
     }
 }
 
