@@ -86,7 +86,9 @@ pub record Figures : Type 0 where
   pub not_refused_by_3 : plan_refusal 256 12 3 6 3 1 ≡ None
   pub not_refused_by_4 : plan_refusal 16 6 2 12 2 1 ≡ None
   pub refused_by_4 : plan_refusal 16 6 2 13 2 1 ≡ Some too_few_codes
-  -- parities, and reads with modules out, of every plan with the numbers (2, 2, 3, 2) and one symbol to a chunk; there is one
+
+-- the worked pool, of every plan with the numbers (2, 2, 3, 2) and one symbol to a chunk; there is one
+pub record WorkedPools : Type 0 where
   pub worked_plans : (plan_refusal 256 2 2 3 2 1 ≡ None) × (plan_refusal 257 2 2 3 2 1 ≡ None)
   pub byte_pool : (p : Plan) → Has 256 2 2 3 2 1 p → BytePool (scheme_of p)
   pub prime_pool : (p : Plan) → Has 257 2 2 3 2 1 p → PrimePool (scheme_of p)

@@ -1,7 +1,12 @@
-//! Plays the script on standard input and prints what each line answers.
+//! Plays a script of commands and prints what each answers.
 #![tactic(auto)]
 
-use player::transcript::transcript;
+mod answer;
+mod bench;
+mod script;
+mod text;
+mod transcript;
+
 use std::io;
 use std::io::{Read, Write};
 
@@ -9,6 +14,6 @@ fn main(rt: HostRuntime) -> io::Result<()> {
     let heap = rt.alloc();
     let mut input = Vec::new(heap);
     rt.stdin().read_to_end(&mut input)?;
-    let out = transcript(heap, input.as_slice())?;
+    let out = transcript::transcript(heap, input.as_slice())?;
     rt.stdout().write_all(out.as_slice())
 }
