@@ -1,8 +1,8 @@
 //! A second implementation of the rules of docs/RULES.md, which shares nothing with the libraries: it makes random scripts
-//! for the program `retain`, and says what `retain` must print for a script.
+//! for the program `sample`, and says what `sample` must print for a script.
 //!
 //!     reference script SEED CALLS     prints a random script with so many commands
-//!     reference answer < SCRIPT       prints what retain must print for it
+//!     reference answer < SCRIPT       prints what sample must print for it
 
 mod field;
 mod plan;

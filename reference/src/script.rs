@@ -1,4 +1,4 @@
-//! Plays a script as the program `retain` must.
+//! Plays a script as the program `sample` must.
 
 use crate::field::{Field, FIELDS};
 use crate::plan::{Plan, Refusal};

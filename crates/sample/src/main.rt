@@ -1,4 +1,5 @@
-//! Plays the stored sample of random scripts, as the program `retain` plays its own script.
+//! Plays the script on standard input, pools included, and prints what each line answers. The stored script is a sample of
+//! random ones.
 #![tactic(auto)]
 
 use player::transcript::transcript;
