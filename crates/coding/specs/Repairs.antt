@@ -5,7 +5,7 @@ use Rattle.field.specs.Sums.{total, minus}
 use Rattle.field.specs.Systems.{Inverse, at}
 use Rattle.layout.specs.declared.plan.Plan.{Plan}
 use Rattle.layout.specs.declared.refusal.Refusal.{Refusal}
-use Rattle.layout.specs.declared.refusal.Layer.TheVariants.{Coding}
+use Rattle.layout.specs.declared.refusal.Refusal.TheVariants.{BeyondRepair}
 use Rattle.rack.specs.Meaning.{Meaning}
 use Rattle.coding.specs.declared.group.Kind.{Kind}
 use Rattle.coding.specs.declared.repair.Repair.{Repair}
@@ -14,10 +14,6 @@ use Rattle.coding.specs.Groups.{groups, size, parities, chunk_of, index_of, nth}
 use Rattle.coding.specs.Words.{missing, misses, Fixed}
 use Rattle.coding.specs.Pieces.{Grouped, Weights}
 use Rattle.coding.specs.Steps.{flags}
-
--- 14: a group misses more pieces than it has parities; the place is its number
-abbrev pub too_many : ℕ → Refusal
-too_many i = record { number = 14; layer = Coding; place = i }
 
 -- s is ready to rebuild group i where the modules that out tells are out
 pub record Ready (A : Arithmetic) (p : Scheme) (t : Kind) (i : ℕ) (out : ℕ → Bool) (s : Repair) : Type 0 where
@@ -43,7 +39,7 @@ Prepared p A t i out (Ok s) =
     (i < groups (scheme_of p) t) × (misses (scheme_of p) t i (flags out) ≤ parities (scheme_of p) t)
     × (A.order ≡ p.order → Ready A (scheme_of p) t i (flags out) s)
 Prepared p A t i out (Err e) =
-    (i < groups (scheme_of p) t → parities (scheme_of p) t < misses (scheme_of p) t i (flags out)) × (e ≡ too_many i)
+    (i < groups (scheme_of p) t → parities (scheme_of p) t < misses (scheme_of p) t i (flags out)) × (e ≡ BeyondRepair i)
 
 -- the symbols of the chunks that are left, as the rack has them, and zeros in the other places
 pub record Known (s : Repair) (w : Meaning) (o : ℕ) (a : List ℕ) : Type 0 where

@@ -1,7 +1,7 @@
 // Making a repair.
 ghost use Rattle.std.specs.Prelude.{◌≡◌, ℕ, ◌+◌, ◌<◌, ◌≤◌, not, ◌&&◌, [], length, nat_lt, slice_index, slice_index_or};
 ghost use Rattle.coding.specs.Pieces.{Weights};
-ghost use Rattle.coding.specs.Repairs.{Prepared, too_many};
+ghost use Rattle.coding.specs.Repairs.{Prepared};
 ghost use Rattle.coding.specs.Schemes.{scheme_of};
 ghost use Rattle.coding.specs.Steps.{Gone, Held, Positions, flags};
 ghost use Rattle.coding.specs.Words.{OneWord};
@@ -12,7 +12,7 @@ use crate::parity::weights;
 use crate::repair::Repair;
 use field::{Field, invert};
 use layout::plan::Plan;
-use layout::refusal::{Layer, Refusal};
+use layout::refusal::Refusal;
 
 /// Whether a module is one of those that are out.
 fn is_out(out: [bool; 32], module: u16) -> bool
@@ -126,17 +126,6 @@ fn inverse_of<F: Field>(field: &F, n: usize, parities: [u8; 4], columns: [u8; 4]
     }
 }
 
-/// The refusal of a group that misses too many pieces.
-fn too_many(index: u16) -> Refusal
-    ensures { result ≡ too_many index }
-{
-    Refusal {
-        number: 14,
-        layer: Layer::Coding,
-        place: index,
-    }
-}
-
 /// Works out how to rebuild a group where some modules are out: the missing chunks, the parities that stand in for them, and
 /// the inverse of their coefficients. It refuses a group that misses more pieces than it has parities, and one that is not there.
 pub fn prepare<F: Field>(
@@ -150,14 +139,14 @@ pub fn prepare<F: Field>(
     ensures one_word { (F.arithmetic field.now).order ≡ plan.now.order → OneWord (F.arithmetic field.now) (scheme_of plan.now) }
 {
     let Some(group) = Group::of(plan, kind, index) else {
-        return Err(too_many(index));
+        return Err(Refusal::BeyondRepair(index));
     };
     let gone = gone_of(&group, out);
     let (missing, count) = positions(&gone);
     let held = held_of(&group, out);
     let (parities, left) = positions(&held);
     if count > left {
-        return Err(too_many(index));
+        return Err(Refusal::BeyondRepair(index));
     }
     let columns = columns_of(&group, missing);
     let sources = sources_of(&group, parities);

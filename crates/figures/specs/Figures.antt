@@ -7,14 +7,14 @@ use Rattle.field.specs.Sums.{coefficient, minus}
 use Rattle.layout.specs.declared.plan.Plan.{Plan}
 use Rattle.layout.specs.Counts.{data_read, parities_read}
 use Rattle.layout.specs.Placing.{chunks_of, row_at, column_at}
-use Rattle.layout.specs.Refusals.{plan_refusal, too_few_parities, too_few_codes, Has}
+use Rattle.layout.specs.Refusals.{plan_refusal, Has}
+use Rattle.layout.specs.declared.refusal.Refusal.TheVariants.{TooFewParities, TooFewCodes, BeyondRepair}
 use Rattle.coding.specs.declared.group.Kind.{Kind}
 use Rattle.coding.specs.declared.group.Kind.TheVariants.{Stripe, Row}
 use Rattle.coding.specs.Schemes.{Scheme, scheme_of}
 use Rattle.coding.specs.Groups.{member, share, parity}
 use Rattle.pool.specs.declared.kinds.Phase.TheVariants.{Before}
 use Rattle.pool.specs.declared.kinds.Call.TheVariants.{Read}
-use Rattle.pool.specs.Refusals.{beyond_repair}
 use Rattle.pool.specs.Book.{refusal}
 
 -- chunk j of the plan with the sizes d and d' lies in this row and column
@@ -51,7 +51,7 @@ pub record BytePool (p : Scheme) : Type 0 where
   -- before the changeover, with modules 0, 1 and 3 out: chunks 2 and 3 are read, chunk 0 is refused by 14
   pub chunk_2 : refusal p 256 Before 0 lost (Read 2 0) ≡ None
   pub chunk_3 : refusal p 256 Before 0 lost (Read 3 0) ≡ None
-  pub chunk_0 : refusal p 256 Before 0 lost (Read 0 0) ≡ Some (beyond_repair 0)
+  pub chunk_0 : refusal p 256 Before 0 lost (Read 0 0) ≡ Some (BeyondRepair 0)
 
 -- the worked pool in the prime field
 pub record PrimePool (p : Scheme) : Type 0 where
@@ -82,10 +82,10 @@ pub record Figures : Type 0 where
   pub prime_coefficients : (coefficient prime 0 0 ≡ 64) × (coefficient prime 0 1 ≡ 154)
   -- refused plans, with chunks of one symbol: in the byte field (12, 2, 6, 2) is, (12, 3, 6, 3) is not;
   -- in the nibble field (6, 2, 12, 2) is not, (6, 2, 13, 2) is
-  pub refused_by_3 : plan_refusal 256 12 2 6 2 1 ≡ Some too_few_parities
+  pub refused_by_3 : plan_refusal 256 12 2 6 2 1 ≡ Some TooFewParities
   pub not_refused_by_3 : plan_refusal 256 12 3 6 3 1 ≡ None
   pub not_refused_by_4 : plan_refusal 16 6 2 12 2 1 ≡ None
-  pub refused_by_4 : plan_refusal 16 6 2 13 2 1 ≡ Some too_few_codes
+  pub refused_by_4 : plan_refusal 16 6 2 13 2 1 ≡ Some TooFewCodes
 
 -- the worked pool, of every plan with the numbers (2, 2, 3, 2) and one symbol to a chunk; there is one
 pub record WorkedPools : Type 0 where

@@ -15,7 +15,7 @@ use Rattle.pool.specs.declared.kinds.Answer.{Answer}
 use Rattle.pool.specs.declared.kinds.Answer.TheVariants.{Carried, Refused}
 use Rattle.pool.specs.declared.pool.Pool.{Pool}
 use Rattle.pool.specs.Book.{refusal, refuse_if, under_way_refusal, carried_data, carried_parities}
-use Rattle.pool.specs.Refusals.{wrong_count}
+use Rattle.layout.specs.declared.refusal.Refusal.TheVariants.{WrongCount}
 use Rattle.pool.specs.Standing.{Standing, out_of, Kept}
 use Rattle.pool.specs.Effects.{changed, carried_symbol, Does}
 use Rattle.pool.specs.declared.load.Load.{Load}
@@ -79,12 +79,12 @@ module _ {F R : Type 0} (arithmetic : F → Arithmetic) (lawful : (f : F) → La
   pub refuses_phase : (e : Refusal) → under_way_refusal x.phase None ≡ Some e → Called arithmetic valid meaning x x Carry (Refused e)
   refuses_phase e is = refuses Carry e (first_refusal x.phase _ e is)
 
-  pub refuses_count : (e : Refusal) → e ≡ wrong_count x.carried → under_way_refusal x.phase None ≡ None → (scheme_of x.plan).stripes ≤ x.carried → Called arithmetic valid meaning x x Carry (Refused e)
+  pub refuses_count : (e : Refusal) → e ≡ WrongCount x.carried → under_way_refusal x.phase None ≡ None → (scheme_of x.plan).stripes ≤ x.carried → Called arithmetic valid meaning x x Carry (Refused e)
   refuses_count e is under many =
       let n : ℕ = (scheme_of x.plan).stripes in
       refuses Carry e
-      (ap (λ (ph : Phase). under_way_refusal ph (refuse_if (leb n x.carried) (wrong_count x.carried) None)) (passes_under_way x.phase None under).0
-      ∙ cond-true (leb n x.carried) (Some (wrong_count x.carried)) None (le-leb n x.carried many)
+      (ap (λ (ph : Phase). under_way_refusal ph (refuse_if (leb n x.carried) (WrongCount x.carried) None)) (passes_under_way x.phase None under).0
+      ∙ cond-true (leb n x.carried) (Some (WrongCount x.carried)) None (le-leb n x.carried many)
       ∙ ap Some (sym is))
 
   -- a stripe is carried
@@ -98,8 +98,8 @@ module _ {F R : Type 0} (arithmetic : F → Arithmetic) (lawful : (f : F) → La
       let s : Standing = standing arithmetic valid meaning x in
       let y : Pool F R = record { plan = x.plan; field = x.field; rack = rack; phase = x.phase; carried = x.carried + 1 } in
       let accepted : refusal p A.order s.phase s.carried (out_of s) Carry ≡ None =
-      ap (λ (ph : Phase). under_way_refusal ph (refuse_if (leb p.stripes x.carried) (wrong_count x.carried) None)) way
-      ∙ cond-false (leb p.stripes x.carried) (Some (wrong_count x.carried)) None (lt-leb p.stripes x.carried more) in
+      ap (λ (ph : Phase). under_way_refusal ph (refuse_if (leb p.stripes x.carried) (WrongCount x.carried) None)) way
+      ∙ cond-false (leb p.stripes x.carried) (Some (WrongCount x.carried)) None (lt-leb p.stripes x.carried more) in
       called y Carry (Carried m k) refl refl ok
       (does_granted A p s Carry (Carried m k) (standing arithmetic valid meaning y) accepted (
         ap (λ (c : ℕ × ℕ). Carried c.0 c.1) counts,

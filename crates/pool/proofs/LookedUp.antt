@@ -9,9 +9,10 @@ use Rattle.coding.specs.Schemes.{Scheme, Sound}
 use Rattle.coding.specs.Groups.{parities, member, index_of, count}
 use Rattle.coding.specs.Words.{lost, missing, misses, used, Fixed}
 use Rattle.coding.specs.Steps.{flags}
-use Rattle.coding.specs.Repairs.{too_many, Rebuilt}
+use Rattle.coding.specs.Repairs.{Rebuilt}
+use Rattle.layout.specs.declared.refusal.Refusal.TheVariants.{BeyondRepair}
 use Rattle.coding.proofs.Counting.{count_same}
-use Rattle.pool.specs.Refusals.{beyond_repair}
+use Rattle.layout.specs.declared.refusal.Refusal.TheVariants.{BeyondRepair}
 use Rattle.pool.specs.Book.{settled, group_of, modules, beyond}
 use Rattle.pool.specs.Standing.{Standing, out_of}
 use Rattle.pool.specs.Outs.{Outs}
@@ -50,7 +51,7 @@ module _ (A : Arithmetic) (p : Scheme) (sound : Sound A p) (s : Standing) (c o :
   found v f e =
       let i : ℕ = group_of p (settled s.phase) c in
       let Out : Type 0 = (u : ℕ → ℕ) × Fixed A p (settled s.phase) i (out_of s) s.held o u × (v ≡ u c) in (
-        cond-false (out_of s (p.column c) && beyond p (settled s.phase) (out_of s) i) (Some (beyond_repair i)) None
+        cond-false (out_of s (p.column c) && beyond p (settled s.phase) (out_of s) i) (Some (BeyondRepair i)) None
             (and_left (out_of s (p.column c)) (beyond p (settled s.phase) (out_of s) i) (ap not f)),
         subst (λ (b : Bool). MatchBool b (v ≡ s.held.symbol (p.column c) (p.row c) o) Out) (sym f) e,
       )
@@ -66,7 +67,7 @@ module _ (A : Arithmetic) (p : Scheme) (sound : Sound A p) (s : Standing) (c o :
         let Out : Type 0 = (u : ℕ → ℕ) × Fixed A p t i (out_of s) s.held o u × (v ≡ u c) in
         let fixed : Fixed A p t i (out_of s) s.held o (λ j. get_or a (index_of p t j) 0) = fixed_same A p sound (flags r) (out_of s) (flags_same p s r outs) t i s.held o _ made.fixed in
         let word : Out = ((λ j. get_or a (index_of p t j) 0), fixed, refl) in (
-          cond-false (out_of s (p.column c) && beyond p t (out_of s) i) (Some (beyond_repair i)) None
+          cond-false (out_of s (p.column c) && beyond p t (out_of s) i) (Some (BeyondRepair i)) None
               (and_right (out_of s (p.column c)) (beyond p t (out_of s) i)
               (le-ltb (parities p t) (misses p t i (out_of s)) (omega (arith, few, misses_same A p sound (flags r) (out_of s) (flags_same p s r outs) t i)))),
           subst (λ (b : Bool). MatchBool b (v ≡ s.held.symbol (p.column c) (p.row c) o) Out) (sym f) word,
@@ -84,20 +85,20 @@ module _ (A : Arithmetic) (p : Scheme) (sound : Sound A p) (s : Standing) (c o :
         subst (λ (n : ℕ). Looked A p s c o (Ok n)) (sym ve) (rebuilt_here a (subst Q ie few) (subst M ie made)))
 
     beyond_here : (e : Refusal) → parities p (settled s.phase) < misses p (settled s.phase) (group_of p (settled s.phase) c) (flags r) →
-        e ≡ too_many (group_of p (settled s.phase) c) → Looked A p s c o (Err e)
+        e ≡ BeyondRepair (group_of p (settled s.phase) c) → Looked A p s c o (Err e)
     beyond_here e many is =
         let t : Kind = settled s.phase in
         let i : ℕ = group_of p t c in
-        cond-true (out_of s (p.column c) && beyond p t (out_of s) i) (Some (beyond_repair i)) None
+        cond-true (out_of s (p.column c) && beyond p t (out_of s) i) (Some (BeyondRepair i)) None
         (and_from (out_of s (p.column c)) (beyond p t (out_of s) i) (ap not f)
         (lt-ltb (parities p t) (misses p t i (out_of s)) (omega (arith, many, misses_same A p sound (flags r) (out_of s) (flags_same p s r outs) t i))))
         ∙ ap (λ (q : Refusal). Some q) (sym is)
 
     -- one whose group misses too much
-    pub too_much : (t : Kind) (i : ℕ) (e told : Refusal) → t ≡ settled s.phase → i ≡ group_of p t c → parities p t < misses p t i (flags r) → told ≡ too_many i → e ≡ told → Looked A p s c o (Err e)
+    pub too_much : (t : Kind) (i : ℕ) (e told : Refusal) → t ≡ settled s.phase → i ≡ group_of p t c → parities p t < misses p t i (flags r) → told ≡ BeyondRepair i → e ≡ told → Looked A p s c o (Err e)
     too_much t i e told te =
-        let P : Kind → Type 0 = λ t. i ≡ group_of p t c → parities p t < misses p t i (flags r) → told ≡ too_many i → e ≡ told → Looked A p s c o (Err e) in
+        let P : Kind → Type 0 = λ t. i ≡ group_of p t c → parities p t < misses p t i (flags r) → told ≡ BeyondRepair i → e ≡ told → Looked A p s c o (Err e) in
         subst P (sym te)
         (λ ie many is same.
         let Q : ℕ → Type 0 = λ i. parities p (settled s.phase) < misses p (settled s.phase) i (flags r) in
-        beyond_here e (subst Q ie many) (same ∙ is ∙ ap too_many ie))
+        beyond_here e (subst Q ie many) (same ∙ is ∙ ap BeyondRepair ie))

@@ -10,7 +10,7 @@ use Rattle.coding.specs.Groups.{groups}
 use Rattle.coding.specs.Steps.{flags}
 use Rattle.pool.specs.declared.kinds.Call.TheVariants.{Refit}
 use Rattle.pool.specs.declared.kinds.Answer.TheVariants.{Done}
-use Rattle.pool.specs.Refusals.{no_module, already_so, beyond_repair}
+use Rattle.layout.specs.declared.refusal.Refusal.TheVariants.{NoModule, AlreadySo, BeyondRepair}
 use Rattle.pool.specs.Book.{modules, settled, holds_piece, beyond, lowest, refuse_if, refuse_at, refusal}
 use Rattle.pool.specs.Standing.{Standing, out_of, Kept}
 use Rattle.pool.specs.Effects.{Refitted, Does, holding}
@@ -26,28 +26,28 @@ lacks p m out t = lowest (λ i. holds_piece p t m i && beyond p t out i) (groups
 
 module _ (A : Arithmetic) (p : Scheme) (sound : Sound A p) (s : Standing) (m : ℕ) where
   -- there is no such module
-  pub no_such : modules p ≤ m → refusal p A.order s.phase s.carried (out_of s) (Refit m) ≡ Some (no_module m)
-  no_such h = cond-true (leb (modules p) m) (Some (no_module m)) _ (le-leb (modules p) m h)
+  pub no_such : modules p ≤ m → refusal p A.order s.phase s.carried (out_of s) (Refit m) ≡ Some (NoModule m)
+  no_such h = cond-true (leb (modules p) m) (Some (NoModule m)) _ (le-leb (modules p) m h)
 
   -- the module is fitted
-  pub fitted_still : m < modules p → s.held.fitted m ≡ true → refusal p A.order s.phase s.carried (out_of s) (Refit m) ≡ Some (already_so m)
+  pub fitted_still : m < modules p → s.held.fitted m ≡ true → refusal p A.order s.phase s.carried (out_of s) (Refit m) ≡ Some (AlreadySo m)
   fitted_still lm f =
-      let rest : Option Refusal = refuse_at (lacks p m (out_of s) (settled s.phase)) beyond_repair in
-      cond-false (leb (modules p) m) _ (refuse_if (not (out_of s m)) (already_so m) rest) (lt-leb (modules p) m lm)
-      ∙ cond-true (not (out_of s m)) (Some (already_so m)) rest (ap (λ b. not (not b)) f)
+      let rest : Option Refusal = refuse_at (lacks p m (out_of s) (settled s.phase)) BeyondRepair in
+      cond-false (leb (modules p) m) _ (refuse_if (not (out_of s m)) (AlreadySo m) rest) (lt-leb (modules p) m lm)
+      ∙ cond-true (not (out_of s m)) (Some (AlreadySo m)) rest (ap (λ b. not (not b)) f)
 
   module _ (lm : m < modules p) (pulled : s.held.fitted m ≡ false) (kind : Kind) (kind_is : kind ≡ settled s.phase) (out : List Bool) (outs : Outs p s.held out) where
     is_out : flags out m ≡ true
     is_out = outs.are m lm ∙ not_from_false (s.held.fitted m) pulled
 
     -- a refit of a module that is out is refused where one of its groups is beyond repair
-    pub refusal_is : refusal p A.order s.phase s.carried (out_of s) (Refit m) ≡ refuse_at (lacks p m (flags out) kind) beyond_repair
+    pub refusal_is : refusal p A.order s.phase s.carried (out_of s) (Refit m) ≡ refuse_at (lacks p m (flags out) kind) BeyondRepair
     refusal_is =
-        let rest : Option Refusal = refuse_at (lacks p m (flags out) (settled s.phase)) beyond_repair in
+        let rest : Option Refusal = refuse_at (lacks p m (flags out) (settled s.phase)) BeyondRepair in
         sym (refusal_same A p sound (flags out) (out_of s) outs.are A.order s.phase s.carried (Refit m))
-        ∙ cond-false (leb (modules p) m) _ (refuse_if (not (flags out m)) (already_so m) rest) (lt-leb (modules p) m lm)
+        ∙ cond-false (leb (modules p) m) _ (refuse_if (not (flags out m)) (AlreadySo m) rest) (lt-leb (modules p) m lm)
         ∙ cond-false (not (flags out m)) _ rest (not_from_true (flags out m) is_out)
-        ∙ ap (λ (t : Kind). refuse_at (lacks p m (flags out) t) beyond_repair) (sym kind_is)
+        ∙ ap (λ (t : Kind). refuse_at (lacks p m (flags out) t) BeyondRepair) (sym kind_is)
 
     module _ (kept : Kept A p s) (none : lacks p m (flags out) kind ≡ None) (w w' : Meaning) (fit : w ≡ after_fit s.held m)
         (through : GoesThrough A p kind (flags out) m (groups p kind) w w') where
@@ -76,4 +76,4 @@ module _ (A : Arithmetic) (p : Scheme) (sound : Sound A p) (s : Standing) (m : �
       -- the others are granted
       pub refit_does : Does A p s (Refit m) Done (holding s w')
       refit_does =
-          does_granted A p s (Refit m) Done (holding s w') (refusal_is ∙ ap (λ (o : Option ℕ). refuse_at o beyond_repair) none) (w', refitted_is, refl, refl)
+          does_granted A p s (Refit m) Done (holding s w') (refusal_is ∙ ap (λ (o : Option ℕ). refuse_at o BeyondRepair) none) (w', refitted_is, refl, refl)

@@ -12,7 +12,7 @@ use Rattle.pool.specs.declared.kinds.Phase.{Phase}
 use Rattle.pool.specs.declared.kinds.Phase.TheVariants.{Before, UnderWay, Voided, After}
 use Rattle.pool.specs.declared.kinds.Call.{Call}
 use Rattle.pool.specs.declared.kinds.Call.TheVariants.{Read, Write, Pull, Refit, Begin, Carry, Ready, Close, Drop}
-use Rattle.pool.specs.Refusals.{wrong_phase, already_so, module_out, beyond_repair}
+use Rattle.layout.specs.declared.refusal.Refusal.TheVariants.{WrongPhase, AlreadySo, ModuleOut, BeyondRepair}
 use Rattle.pool.specs.Book.{Book, settled, group_of, modules, or_last, lowest, beyond, holds_piece, refuse_if, refuse_at, repair_refusal, under_way_refusal, is_before, phase_number, refusal, book_refusal}
 use Rattle.pool.specs.Standing.{Standing, out_of}
 use Rattle.pool.specs.Agrees.{Agrees}
@@ -57,10 +57,10 @@ passes_at None e h = refl
 passes_at (Some n) e h = absurd (never (e n) h)
 
 pub passes_under_way : (ph : Phase) (rest : Option Refusal) → under_way_refusal ph rest ≡ None → (ph ≡ UnderWay) × (rest ≡ None)
-passes_under_way Before rest h = absurd (never (wrong_phase 0) h)
+passes_under_way Before rest h = absurd (never (WrongPhase 0) h)
 passes_under_way UnderWay rest h = (refl, h)
 passes_under_way Voided rest h = absurd (never _ h)
-passes_under_way After rest h = absurd (never (wrong_phase 3) h)
+passes_under_way After rest h = absurd (never (WrongPhase 3) h)
 
 -- a phase that counts as not begun is that
 pub is_before_lem : (ph : Phase) → not (is_before ph) ≡ false → ph ≡ Before
@@ -88,8 +88,8 @@ module _ (A : Arithmetic) (p : Scheme) (sound : Sound A p) (out out' : ℕ → B
   repair_same : (ph : Phase) (c : ℕ) → c < p.chunks → repair_refusal p ph out c ≡ repair_refusal p ph out' c
   repair_same ph c lc =
       let i : ℕ = group_of p (settled ph) c in
-      ap (λ b. refuse_if (b && beyond p (settled ph) out i) (beyond_repair i) None) (same (p.column c) (chunk_module A p sound c lc))
-      ∙ ap (λ b. refuse_if (out' (p.column c) && b) (beyond_repair i) None) (beyond_same (settled ph) i)
+      ap (λ b. refuse_if (b && beyond p (settled ph) out i) (BeyondRepair i) None) (same (p.column c) (chunk_module A p sound c lc))
+      ∙ ap (λ b. refuse_if (out' (p.column c) && b) (BeyondRepair i) None) (beyond_same (settled ph) i)
 
   -- so modules out that agree there give one refusal
   pub refusal_same : (q : ℕ) (ph : Phase) (n : ℕ) (c : Call) → refusal p q ph n out c ≡ refusal p q ph n out' c
@@ -100,17 +100,17 @@ module _ (A : Arithmetic) (p : Scheme) (sound : Sound A p) (out out' : ℕ → B
       guarded (leb p.chunks c) _ _ _
       (λ h. guarded (leb p.len o) _ _ _ (λ _. guarded (leb q v) _ _ _ (λ _. repair_same ph c (leb-false p.chunks c h))))
   refusal_same q ph n (Pull m) =
-      guarded (leb (modules p) m) _ _ _ (λ h. ap (λ b. refuse_if b (already_so m) None) (same m (leb-false (modules p) m h)))
+      guarded (leb (modules p) m) _ _ _ (λ h. ap (λ b. refuse_if b (AlreadySo m) None) (same m (leb-false (modules p) m h)))
   refusal_same q ph n (Refit m) =
       guarded (leb (modules p) m) _ _ _
       (λ h.
-      ap (λ b. refuse_if (not b) (already_so m) (refuse_at (lowest (λ i. holds_piece p (settled ph) m i && beyond p (settled ph) out i) (groups p (settled ph))) beyond_repair))
+      ap (λ b. refuse_if (not b) (AlreadySo m) (refuse_at (lowest (λ i. holds_piece p (settled ph) m i && beyond p (settled ph) out i) (groups p (settled ph))) BeyondRepair))
       (same m (leb-false (modules p) m h))
-      ∙ ap (λ o. refuse_if (not (out' m)) (already_so m) (refuse_at o beyond_repair))
+      ∙ ap (λ o. refuse_if (not (out' m)) (AlreadySo m) (refuse_at o BeyondRepair))
       (lowest_same (λ i. holds_piece p (settled ph) m i && beyond p (settled ph) out i) (λ i. holds_piece p (settled ph) m i && beyond p (settled ph) out' i) (groups p (settled ph))
       (λ i li. ap (λ b. holds_piece p (settled ph) m i && b) (beyond_same (settled ph) i))))
   refusal_same q ph n Begin =
-      ap (λ o. refuse_if (not (is_before ph)) (wrong_phase (phase_number ph)) (refuse_at o module_out)) (lowest_same out out' (modules p) same)
+      ap (λ o. refuse_if (not (is_before ph)) (WrongPhase (phase_number ph)) (refuse_at o ModuleOut)) (lowest_same out out' (modules p) same)
   refusal_same q ph n Carry = refl
   refusal_same q ph n Ready = refl
   refusal_same q ph n Close = refl

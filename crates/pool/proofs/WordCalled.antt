@@ -11,7 +11,7 @@ use Rattle.pool.specs.declared.kinds.Call.TheVariants.{Write}
 use Rattle.pool.specs.declared.kinds.Answer.{Answer}
 use Rattle.pool.specs.declared.kinds.Answer.TheVariants.{Done}
 use Rattle.pool.specs.declared.pool.Pool.{Pool}
-use Rattle.pool.specs.Refusals.{no_word, no_symbol}
+use Rattle.layout.specs.declared.refusal.Refusal.TheVariants.{NoWord, NoSymbol}
 use Rattle.pool.specs.Book.{refusal}
 use Rattle.pool.specs.Standing.{Standing, out_of, Kept}
 use Rattle.pool.specs.Effects.{changed, holding, written_symbol, Does}
@@ -25,9 +25,9 @@ use Rattle.pool.proofs.Keeping.{kept_step}
 write_granted : (A : Arithmetic) (p : Scheme) (s : Standing) (c o v old : ℕ) → c < p.chunks → o < p.len → v < A.order → Looked A p s c o (Ok old) →
     refusal p A.order s.phase s.carried (out_of s) (Write c o v) ≡ None
 write_granted A p s c o v old lc lo lv looked =
-    cond-false (leb p.chunks c) (Some (no_word 1)) _ (lt-leb p.chunks c lc)
-    ∙ cond-false (leb p.len o) (Some (no_word 2)) _ (lt-leb p.len o lo)
-    ∙ cond-false (leb A.order v) (Some (no_symbol v)) _ (lt-leb A.order v lv)
+    cond-false (leb p.chunks c) (Some (NoWord 1)) _ (lt-leb p.chunks c lc)
+    ∙ cond-false (leb p.len o) (Some (NoWord 2)) _ (lt-leb p.len o lo)
+    ∙ cond-false (leb A.order v) (Some (NoSymbol v)) _ (lt-leb A.order v lv)
     ∙ looked.0
 
 -- a rack that a write left so

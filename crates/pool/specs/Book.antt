@@ -13,7 +13,7 @@ use Rattle.pool.specs.declared.kinds.Call.{Call}
 use Rattle.pool.specs.declared.kinds.Call.TheVariants.{Read, Write, Pull, Refit, Begin, Carry, Ready, Close, Drop}
 use Rattle.pool.specs.declared.kinds.Answer.{Answer}
 use Rattle.pool.specs.declared.kinds.Answer.TheVariants.{Symbol, Carried, Done, Refused}
-use Rattle.pool.specs.Refusals.{no_module, no_word, no_symbol, wrong_phase, already_so, module_out, changeover_voided, wrong_count, beyond_repair}
+use Rattle.layout.specs.declared.refusal.Refusal.TheVariants.{NoModule, NoWord, NoSymbol, WrongPhase, AlreadySo, ModuleOut, ChangeoverVoided, WrongCount, BeyondRepair}
 
 -- the symbol of each chunk and offset, the modules out, the phase, and how many stripes are carried: the changeover has added
 -- these, from stripe 0 on, to the parities of the rows
@@ -79,19 +79,19 @@ refuse_at (Some n) e = Some (e n)
 
 -- chunk c and offset o of a word, and then the checks after these
 abbrev pub word_refusal : Scheme → Phase → (ℕ → Bool) → ℕ → ℕ → Option Refusal → Option Refusal
-word_refusal p ph out c o rest = refuse_if (nat_le p.chunks c) (no_word 1) (refuse_if (nat_le p.len o) (no_word 2) rest)
+word_refusal p ph out c o rest = refuse_if (nat_le p.chunks c) (NoWord 1) (refuse_if (nat_le p.len o) (NoWord 2) rest)
 
 -- the repair of a chunk whose module is out
 abbrev pub repair_refusal : Scheme → Phase → (ℕ → Bool) → ℕ → Option Refusal
 repair_refusal p ph out c =
-    refuse_if (out (p.column c) && beyond p (settled ph) out (group_of p (settled ph) c)) (beyond_repair (group_of p (settled ph) c)) None
+    refuse_if (out (p.column c) && beyond p (settled ph) out (group_of p (settled ph) c)) (BeyondRepair (group_of p (settled ph) c)) None
 
 -- carry, ready and close want a changeover under way
 abbrev pub under_way_refusal : Phase → Option Refusal → Option Refusal
-under_way_refusal Before rest = Some (wrong_phase 0)
+under_way_refusal Before rest = Some (WrongPhase 0)
 under_way_refusal UnderWay rest = rest
-under_way_refusal Voided rest = Some changeover_voided
-under_way_refusal After rest = Some (wrong_phase 3)
+under_way_refusal Voided rest = Some ChangeoverVoided
+under_way_refusal After rest = Some (WrongPhase 3)
 
 abbrev pub is_before : Phase → Bool
 is_before Before = true
@@ -103,16 +103,16 @@ is_before After = false
 -- and has carried n stripes. The checks stand in their order.
 abbrev pub refusal : Scheme → ℕ → Phase → ℕ → (ℕ → Bool) → Call → Option Refusal
 refusal p q ph n out (Read c o) = word_refusal p ph out c o (repair_refusal p ph out c)
-refusal p q ph n out (Write c o v) = word_refusal p ph out c o (refuse_if (nat_le q v) (no_symbol v) (repair_refusal p ph out c))
-refusal p q ph n out (Pull m) = refuse_if (nat_le (modules p) m) (no_module m) (refuse_if (out m) (already_so m) None)
+refusal p q ph n out (Write c o v) = word_refusal p ph out c o (refuse_if (nat_le q v) (NoSymbol v) (repair_refusal p ph out c))
+refusal p q ph n out (Pull m) = refuse_if (nat_le (modules p) m) (NoModule m) (refuse_if (out m) (AlreadySo m) None)
 refusal p q ph n out (Refit m) =
-    refuse_if (nat_le (modules p) m) (no_module m)
-    (refuse_if (not (out m)) (already_so m)
-    (refuse_at (lowest (λ i. holds_piece p (settled ph) m i && beyond p (settled ph) out i) (groups p (settled ph))) beyond_repair))
-refusal p q ph n out Begin = refuse_if (not (is_before ph)) (wrong_phase (phase_number ph)) (refuse_at (lowest out (modules p)) module_out)
-refusal p q ph n out Carry = under_way_refusal ph (refuse_if (nat_le p.stripes n) (wrong_count n) None)
-refusal p q ph n out Ready = under_way_refusal ph (refuse_if (nat_lt n p.stripes) (wrong_count n) None)
-refusal p q ph n out Close = under_way_refusal ph (refuse_if (nat_lt n p.stripes) (wrong_count n) None)
+    refuse_if (nat_le (modules p) m) (NoModule m)
+    (refuse_if (not (out m)) (AlreadySo m)
+    (refuse_at (lowest (λ i. holds_piece p (settled ph) m i && beyond p (settled ph) out i) (groups p (settled ph))) BeyondRepair))
+refusal p q ph n out Begin = refuse_if (not (is_before ph)) (WrongPhase (phase_number ph)) (refuse_at (lowest out (modules p)) ModuleOut)
+refusal p q ph n out Carry = under_way_refusal ph (refuse_if (nat_le p.stripes n) (WrongCount n) None)
+refusal p q ph n out Ready = under_way_refusal ph (refuse_if (nat_lt n p.stripes) (WrongCount n) None)
+refusal p q ph n out Close = under_way_refusal ph (refuse_if (nat_lt n p.stripes) (WrongCount n) None)
 refusal p q ph n out Drop = None
 
 -- what carrying stripe i reads: the chunks outside its home row and r' parities, or all its chunks where r' > r

@@ -1,4 +1,3 @@
-pub mod Refusals
 pub mod Book
 pub mod Standing
 pub mod Agrees

@@ -9,7 +9,7 @@ use Rattle.rack.specs.Meaning.{Meaning}
 use Rattle.pool.specs.declared.kinds.Phase.{Phase}
 use Rattle.pool.specs.declared.kinds.Phase.TheVariants.{Before, UnderWay, Voided, After}
 use Rattle.pool.specs.declared.pool.Pool.{Pool}
-use Rattle.pool.specs.Refusals.{does_not_fit, module_out}
+use Rattle.layout.specs.declared.refusal.Refusal.TheVariants.{DoesNotFit, ModuleOut}
 use Rattle.pool.specs.Book.{lowest, refuse_if, refuse_at}
 use Rattle.pool.specs.Standing.{Standing}
 use Rattle.pool.specs.Blocks.{zeroed}
@@ -27,18 +27,18 @@ or_else (Some e) rest = Some e
 -- a field of order q and a memory against the numbers of a plan: its order, modules, slots and length
 abbrev pub misfit : ℕ → ℕ → ℕ → ℕ → ℕ → Meaning → Option Refusal
 misfit order modules slots len q w =
-    refuse_if (not (q == order)) (does_not_fit 1)
-    (refuse_if (not (w.order == order)) (does_not_fit 2)
-    (refuse_if (nat_lt w.modules modules) (does_not_fit 3)
-    (refuse_if (nat_lt w.slots slots) (does_not_fit 4)
-    (refuse_if (nat_lt w.length len) (does_not_fit 5) None))))
+    refuse_if (not (q == order)) (DoesNotFit 1)
+    (refuse_if (not (w.order == order)) (DoesNotFit 2)
+    (refuse_if (nat_lt w.modules modules) (DoesNotFit 3)
+    (refuse_if (nat_lt w.slots slots) (DoesNotFit 4)
+    (refuse_if (nat_lt w.length len) (DoesNotFit 5) None))))
 
 abbrev pub fit_refusal : Plan → ℕ → Meaning → Option Refusal
 fit_refusal p q w = misfit p.order (modules_of p.r p.d2 p.r2) (slots_of p.d p.d2) p.len q w
 
 -- laying wants besides that each of the M modules is fitted
 abbrev pub lay_refusal : Plan → ℕ → Meaning → Option Refusal
-lay_refusal p q w = or_else (fit_refusal p q w) (refuse_at (lowest (λ m. not (w.fitted m)) (modules_of p.r p.d2 p.r2)) module_out)
+lay_refusal p q w = or_else (fit_refusal p q w) (refuse_at (lowest (λ m. not (w.fitted m)) (modules_of p.r p.d2 p.r2)) ModuleOut)
 
 -- opening goes by the numbers of a label: its order, d, r, d', r' and L are the numbers 1 to 6
 abbrev pub open_refusal : List ℕ → ℕ → Meaning → Option Refusal

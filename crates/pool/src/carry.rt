@@ -17,7 +17,6 @@ use crate::kinds::Phase;
 use crate::load::Load;
 use crate::orders::Order;
 use crate::pool::Pool;
-use crate::refuse::{changeover_voided, wrong_count, wrong_phase};
 use crate::words::symbol_at;
 use coding::group::{Group, Kind};
 use coding::parity::weights;
@@ -233,10 +232,10 @@ fn not_under_way(phase: Phase) -> Option<Refusal>
     ensures { result ≡ under_way_refusal phase None }
 {
     match phase {
-        Phase::Before => Some(wrong_phase(0)),
+        Phase::Before => Some(Refusal::WrongPhase(0)),
         Phase::UnderWay => None,
-        Phase::Voided => Some(changeover_voided()),
-        Phase::After => Some(wrong_phase(3)),
+        Phase::Voided => Some(Refusal::ChangeoverVoided),
+        Phase::After => Some(Refusal::WrongPhase(3)),
     }
 }
 
@@ -250,7 +249,7 @@ impl<F: Field, R: Rack> Pool<F, R> {
             return Err(refusal);
         }
         let Some(load) = load_of(&self.field, &self.plan, self.carried) else {
-            return Err(wrong_count(self.carried));
+            return Err(Refusal::WrongCount(self.carried));
         };
         carry_all(&self.field, &mut self.rack, &load);
         self.carried += 1;

@@ -11,7 +11,6 @@ ghost use Rattle.pool.specs.declared.kinds.Call.TheVariants.{Begin, Ready, Close
 use crate::kinds::Phase;
 use crate::orders::{AnyOrder, Order, ReadyOrder};
 use crate::pool::Pool;
-use crate::refuse::{changeover_voided, module_out, wrong_count, wrong_phase};
 use crate::sweep::{clear_block, lowest_out};
 use field::Field;
 use layout::refusal::Refusal;
@@ -46,10 +45,10 @@ impl<F: Field, R: Rack> Pool<F, R> {
     {
         match self.phase {
             Phase::Before => match lowest_out(&self.rack, self.plan.modules()) {
-                Some(module) => Some(module_out(module)),
+                Some(module) => Some(Refusal::ModuleOut(module)),
                 None => None,
             },
-            phase => Some(wrong_phase(phase_number(phase))),
+            phase => Some(Refusal::WrongPhase(phase_number(phase))),
         }
     }
 
@@ -58,16 +57,16 @@ impl<F: Field, R: Rack> Pool<F, R> {
         ensures { result ≡ refusal_of F.arithmetic R.valid R.meaning self.now Close }
     {
         match self.phase {
-            Phase::Before => Some(wrong_phase(0)),
+            Phase::Before => Some(Refusal::WrongPhase(0)),
             Phase::UnderWay => {
                 if self.carried < self.plan.stripes() {
-                    Some(wrong_count(self.carried))
+                    Some(Refusal::WrongCount(self.carried))
                 } else {
                     None
                 }
             }
-            Phase::Voided => Some(changeover_voided()),
-            Phase::After => Some(wrong_phase(3)),
+            Phase::Voided => Some(Refusal::ChangeoverVoided),
+            Phase::After => Some(Refusal::WrongPhase(3)),
         }
     }
 

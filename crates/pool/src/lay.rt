@@ -9,7 +9,6 @@ ghost use Rattle.pool.specs.Pools.{Held, standing};
 
 use crate::kinds::Phase;
 use crate::pool::Pool;
-use crate::refuse::{does_not_fit, module_out};
 use crate::sweep::{clear_block, lowest_out};
 use field::Field;
 use layout::label::Label;
@@ -22,19 +21,19 @@ fn fit_refusal<F: Field, R: Rack>(plan: &Plan, field: &F, rack: &R) -> Option<Re
     ensures { result ≡ fit_refusal plan.now (F.arithmetic field.now).order (R.meaning rack.now) }
 {
     if field.order() != plan.order {
-        return Some(does_not_fit(1));
+        return Some(Refusal::DoesNotFit(1));
     }
     if rack.order() != plan.order {
-        return Some(does_not_fit(2));
+        return Some(Refusal::DoesNotFit(2));
     }
     if rack.modules() < plan.modules() {
-        return Some(does_not_fit(3));
+        return Some(Refusal::DoesNotFit(3));
     }
     if rack.slots() < plan.slots() {
-        return Some(does_not_fit(4));
+        return Some(Refusal::DoesNotFit(4));
     }
     if rack.length() < plan.len {
-        return Some(does_not_fit(5));
+        return Some(Refusal::DoesNotFit(5));
     }
     None
 }
@@ -65,7 +64,7 @@ impl<F: Field, R: Rack> Pool<F, R> {
             return Err(refusal);
         }
         match lowest_out(rack, plan.modules()) {
-            Some(module) => Err(module_out(module)),
+            Some(module) => Err(Refusal::ModuleOut(module)),
             None => Ok(()),
         }
     }

@@ -14,7 +14,6 @@ pub mod orders;
 mod outs;
 pub mod pool;
 pub mod refit;
-mod refuse;
 pub mod replay;
 pub mod run;
 mod sweep;

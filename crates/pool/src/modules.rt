@@ -7,7 +7,6 @@ ghost use Rattle.pool.specs.declared.kinds.Call.TheVariants.{Pull};
 
 use crate::kinds::Phase;
 use crate::pool::Pool;
-use crate::refuse::{already_so, no_module};
 use field::Field;
 use layout::refusal::Refusal;
 use rack::rack::Rack;
@@ -30,10 +29,10 @@ impl<F: Field, R: Rack> Pool<F, R> {
         ensures { Obeys F.arithmetic R.valid R.meaning self.old self.new (Pull «module») (of_done result) }
     {
         if module >= self.plan.modules() {
-            return Err(no_module(module));
+            return Err(Refusal::NoModule(module));
         }
         if !self.rack.pull(module) {
-            return Err(already_so(module));
+            return Err(Refusal::AlreadySo(module));
         }
         self.phase = pulled(self.phase);
         Ok(())

@@ -12,7 +12,6 @@ ghost use Rattle.pool.specs.Restored.{HasChunk, ParityOn, chunk_put, PutsChunks,
 use crate::groups::settled_kind;
 use crate::outs::outs;
 use crate::pool::Pool;
-use crate::refuse::{already_so, beyond_repair, no_module};
 use coding::group::{Group, Kind};
 use coding::parity::parity_of;
 use coding::prepare::prepare;
@@ -208,15 +207,15 @@ impl<F: Field, R: Rack> Pool<F, R> {
         ensures { Obeys F.arithmetic R.valid R.meaning self.old self.new (Refit «module») (of_done result) }
     {
         if module >= self.plan.modules() {
-            return Err(no_module(module));
+            return Err(Refusal::NoModule(module));
         }
         if self.rack.ask(module) {
-            return Err(already_so(module));
+            return Err(Refusal::AlreadySo(module));
         }
         let out = outs(&self.rack, &self.plan);
         let kind = settled_kind(self.phase);
         if let Some(i) = first_beyond(&self.plan, &self.field, kind, module, out) {
-            return Err(beyond_repair(i));
+            return Err(Refusal::BeyondRepair(i));
         }
         let _ = self.rack.fit(module);
         restore(&self.plan, &self.field, &mut self.rack, kind, module, out);

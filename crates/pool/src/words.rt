@@ -14,7 +14,6 @@ use crate::groups::{group_of, index_of, parity_count, parity_slot, settled_kind}
 use crate::kinds::Phase;
 use crate::outs::outs;
 use crate::pool::Pool;
-use crate::refuse::{no_symbol, no_word};
 use coding::prepare::prepare;
 use field::Field;
 use layout::plan::Cell;
@@ -59,10 +58,10 @@ impl<F: Field, R: Rack> Pool<F, R> {
         ensures { Obeys F.arithmetic R.valid R.meaning self.now self.now (Read chunk offset) (of_symbol result) }
     {
         let Some(cell) = self.plan.cell(chunk) else {
-            return Err(no_word(1));
+            return Err(Refusal::NoWord(1));
         };
         if offset >= self.plan.len {
-            return Err(no_word(2));
+            return Err(Refusal::NoWord(2));
         }
         self.find_word(chunk, cell, offset)
     }
@@ -123,13 +122,13 @@ impl<F: Field, R: Rack> Pool<F, R> {
         ensures { Obeys F.arithmetic R.valid R.meaning self.old self.new (Write chunk offset symbol) (of_done result) }
     {
         let Some(cell) = self.plan.cell(chunk) else {
-            return Err(no_word(1));
+            return Err(Refusal::NoWord(1));
         };
         if offset >= self.plan.len {
-            return Err(no_word(2));
+            return Err(Refusal::NoWord(2));
         }
         if symbol >= self.field.order() {
-            return Err(no_symbol(symbol));
+            return Err(Refusal::NoSymbol(symbol));
         }
         let old = self.find_word(chunk, cell, offset)?;
         self.store_word(chunk, cell, offset, symbol, old);

@@ -10,7 +10,7 @@ returns-in_default g c =
     let p = c.args.plan.now in
     let A = g.F.Field.arithmetic c.args.field.now in
     record {
-      prepared = (λ l. absurd (omega (arith, l, c.in_default.ensures)), c.too_many.ensures);
+      prepared = (λ l. absurd (omega (arith, l, c.in_default.ensures)), refl);
       one_word = λ e. rebuilding.one_word A (g.met.F.Field.lawful c.args.field.now) (scheme_of p) (plan.sound p A e);
     }
 
@@ -27,7 +27,7 @@ returns-then-count-left g c =
             c.gone_of-gone.result xl c.gone_of-gone.ensures c.positions-count.result.0 c.positions-count.result.1 c.positions-count.ensures
             c.held_of-held.result yl c.held_of-held.ensures c.positions-left.result.0 c.positions-left.result.1 c.positions-left.ensures
             c.if-count-left.true,
-        c.too_many-then-count-left.ensures,
+        refl,
       );
       one_word = λ e. rebuilding.one_word A (g.met.F.Field.lawful c.args.field.now) (scheme_of p) (plan.sound p A e);
     }

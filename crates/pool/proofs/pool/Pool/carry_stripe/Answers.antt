@@ -1,4 +1,5 @@
-use Rattle.std.proofs.Common.{sym}
+use Rattle.std.proofs.Common.{sym, refl}
+use Rattle.layout.specs.declared.refusal.Refusal.TheVariants.{WrongCount}
 use Rattle.pool.proofs.CarryCalled.{refuses_phase, refuses_count, carries_load}
 use Rattle.pool.proofs.pool.Pool.carry_stripe.Goals as goal
 
@@ -11,7 +12,7 @@ pub returns-in_default-load_of : goal.returns-in_default-load_of
 returns-in_default-load_of g c =
     λ held.
     refuses_count g.F.Field.arithmetic g.met.F.Field.lawful g.R.Rack.valid g.R.Rack.meaning c.args.self.now held
-    c.wrong_count.result c.wrong_count.ensures (sym c.in_default.ensures) c.in_default-load_of.ensures
+    (WrongCount c.args.self.now.carried) refl (sym c.in_default.ensures) c.in_default-load_of.ensures
 
 pub returns : goal.returns
 returns g c =

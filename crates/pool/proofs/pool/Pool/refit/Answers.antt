@@ -1,8 +1,8 @@
-use Rattle.std.proofs.Common.{◌≡◌, ℕ, ◌<◌, ◌≤◌, true, false, Option, sym, ap, ◌∙◌, arith}
+use Rattle.std.proofs.Common.{◌≡◌, ℕ, ◌<◌, ◌≤◌, true, false, Option, sym, refl, ap, ◌∙◌, arith}
 use Rattle.coding.specs.Schemes.{scheme_of}
 use Rattle.pool.specs.declared.kinds.Call.TheVariants.{Refit}
 use Rattle.pool.specs.declared.kinds.Answer.TheVariants.{Done}
-use Rattle.pool.specs.Refusals.{no_module, already_so, beyond_repair}
+use Rattle.layout.specs.declared.refusal.Refusal.TheVariants.{NoModule, AlreadySo, BeyondRepair}
 use Rattle.pool.specs.Book.{modules, refuse_at}
 use Rattle.pool.specs.Pools.{standing}
 use Rattle.pool.proofs.Asking.{asked}
@@ -19,8 +19,8 @@ returns-then-module-modules g c =
     let meaning = g.R.Rack.meaning in
     let m = c.args.module in
     let lm : modules (scheme_of x.plan) ≤ m = omega arith in
-    refused arithmetic valid meaning x h (Refit m) (no_module m) c.no_module.result
-    (no_such (arithmetic x.field) (scheme_of x.plan) (held_sound arithmetic valid meaning x h) (standing arithmetic valid meaning x) m lm) c.no_module.ensures
+    refused arithmetic valid meaning x h (Refit m) (NoModule m) (NoModule m)
+    (no_such (arithmetic x.field) (scheme_of x.plan) (held_sound arithmetic valid meaning x h) (standing arithmetic valid meaning x) m lm) refl
 
 pub returns-then-ask : goal.returns-then-ask
 returns-then-ask g c =
@@ -32,8 +32,8 @@ returns-then-ask g c =
     let m = c.args.module in
     let lm : m < modules (scheme_of x.plan) = omega arith in
     let fitted : (meaning x.rack).fitted m ≡ true = sym (asked (meaning x.rack) h.kept.bounded m) ∙ sym (c.if-ask.ensures h.rack_is_valid) in
-    refused arithmetic valid meaning x h (Refit m) (already_so m) c.already_so.result
-    (fitted_still (arithmetic x.field) (scheme_of x.plan) (held_sound arithmetic valid meaning x h) (standing arithmetic valid meaning x) m lm fitted) c.already_so.ensures
+    refused arithmetic valid meaning x h (Refit m) (AlreadySo m) (AlreadySo m)
+    (fitted_still (arithmetic x.field) (scheme_of x.plan) (held_sound arithmetic valid meaning x h) (standing arithmetic valid meaning x) m lm fitted) refl
 
 pub returns-in-Some : goal.returns-in-Some
 returns-in-Some g c =
@@ -45,11 +45,11 @@ returns-in-Some g c =
     let m = c.args.module in
     let lm : m < modules (scheme_of x.plan) = omega arith in
     let pulled : (meaning x.rack).fitted m ≡ false = sym (asked (meaning x.rack) h.kept.bounded m) ∙ sym (c.if-ask.ensures h.rack_is_valid) in
-    refused arithmetic valid meaning x h (Refit m) (beyond_repair c.in-Some.i) c.beyond_repair.result
+    refused arithmetic valid meaning x h (Refit m) (BeyondRepair c.in-Some.i) (BeyondRepair c.in-Some.i)
     (refusal_is (arithmetic x.field) (scheme_of x.plan) (held_sound arithmetic valid meaning x h) (standing arithmetic valid meaning x) m lm pulled c.settled_kind-kind.result
     c.settled_kind-kind.ensures c.outs-out.result (c.outs-out.ensures h.rack_is_valid)
-    ∙ ap (λ (o : Option ℕ). refuse_at o beyond_repair) (sym c.in-Some.ensures))
-    c.beyond_repair.ensures
+    ∙ ap (λ (o : Option ℕ). refuse_at o BeyondRepair) (sym c.in-Some.ensures))
+    refl
 
 pub returns : goal.returns
 returns g c =
