@@ -80,7 +80,7 @@ module _ (A : Arithmetic) (L : Lawful A) (p : Scheme) (sound : Sound A p) (k : �
       two_groups A L p k v (covers p UnderWay i Row h) (meet p i h) (covers p UnderWay (suc i) Row h) (λ j lj. grind (arith, nat_tests)) (λ j lj. grind (arith, nat_tests))
 
 -- which places are staged
-pub row_staged : (p : Scheme) (h k u : ℕ) → h < p.rows → k < p.r' → u < p.len → staged p (p.d' + k) (p.stripes + h) u ≡ true
+row_staged : (p : Scheme) (h k u : ℕ) → h < p.rows → k < p.r' → u < p.len → staged p (p.d' + k) (p.stripes + h) u ≡ true
 row_staged p h k u lh lk lu = grind (arith, nat_tests)
 
 pub stripe_not_staged : (p : Scheme) (m i u : ℕ) → i < p.stripes → staged p m i u ≡ false

@@ -9,7 +9,7 @@ use Rattle.coding.specs.declared.group.Kind.{Kind}
 use Rattle.coding.specs.declared.group.Kind.TheVariants.{Stripe, Row}
 use Rattle.coding.specs.Schemes.{Scheme, Sound}
 use Rattle.coding.specs.Groups.{groups, parities, member, slot_of, parity, count}
-use Rattle.coding.specs.Words.{misses}
+use Rattle.coding.specs.Words.{missing_pieces}
 use Rattle.coding.proofs.Counting.{counted}
 use Rattle.coding.proofs.Parities.{same_chunks, same_group}
 use Rattle.pool.specs.declared.kinds.Phase.{Phase}
@@ -98,7 +98,7 @@ module _ (A : Arithmetic) (L : Lawful A) (p : Scheme) (sound : Sound A p) (s : S
     other_fitted n ne f = sym (cond-false (eqb n m) true (s.held.fitted n) (ne_eqb n m ne)) ∙ sym (fitted_is n) ∙ f
 
     -- each group with a piece there can be rebuilt
-    few : (i : ℕ) → i < groups p (settled s.phase) → holds_piece p (settled s.phase) m i ≡ true → misses p (settled s.phase) i (out_of s) ≤ parities p (settled s.phase)
+    few : (i : ℕ) → i < groups p (settled s.phase) → holds_piece p (settled s.phase) m i ≡ true → missing_pieces p (settled s.phase) i (out_of s) ≤ parities p (settled s.phase)
     few i li h = repairable p (settled s.phase) (out_of s) i (second (holds_piece p (settled s.phase) m i) (beyond p (settled s.phase) (out_of s) i) (fine i li) h)
 
     -- a chunk on the module is rebuilt

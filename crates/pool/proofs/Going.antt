@@ -1,51 +1,24 @@
 -- Fitting a module again, group after group and offset after offset. Assumes nothing.
-use Rattle.std.proofs.Common.{◌≡◌, ℕ, ◌+◌, ◌<◌, Bool, true, false, not, ◌&&◌, eqb, ltb, ◌≢◌, sym, refl, ap, ◌∙◌, subst, inl, inr, ⊎_elim, arith}
+use Rattle.std.proofs.Common.{◌≡◌, ℕ, ◌+◌, ◌<◌, Bool, true, false, eqb, ◌≢◌, sym, refl, ap, ◌∙◌, subst, inl, inr, ⊎_elim, arith}
 use mathlib.Core.Logic.{by_cases}
 use native.Mathlib.Decide.{ℕ_discrete}
-use Rattle.std.proofs.lemmas.Bool.{and_parts, not-true, eq-eqb, ne_eqb, cond-true, cond-false, both_ways}
+use Rattle.std.proofs.lemmas.Bool.{eq-eqb, ne_eqb, cond-true, cond-false, both_ways}
 use Rattle.field.specs.Arithmetic.{Arithmetic}
 use Rattle.rack.specs.Meaning.{Meaning, flagged}
 use Rattle.coding.specs.declared.group.Kind.{Kind}
 use Rattle.coding.specs.declared.group.Kind.TheVariants.{Stripe, Row}
 use Rattle.coding.specs.Schemes.{Scheme, Sound}
-use Rattle.coding.specs.Groups.{groups, parities, member, slot_of, count}
-use Rattle.coding.specs.Words.{lost, missing, used, Fixed}
-use Rattle.coding.proofs.Counting.{count_same}
+use Rattle.coding.specs.Groups.{groups, parities, member, slot_of}
+use Rattle.coding.specs.Words.{Fixed}
 use Rattle.coding.proofs.Grouping.{group_is}
 use Rattle.pool.specs.Book.{modules, settled, group_of, holds_piece}
 use Rattle.pool.specs.Standing.{Standing, out_of}
 use Rattle.pool.specs.Effects.{changed, Refitted}
 use Rattle.pool.specs.Restored.{At, Pieces, Space, PutBack, Done, Going, Room}
-use Rattle.pool.proofs.Places.{parity_module, chunk_module, group_below, member_own, one_place}
+use Rattle.pool.proofs.Places.{group_below, member_own, one_place}
 use Rattle.pool.proofs.Fitting.{holds_chunk, holds_parity}
+use Rattle.pool.proofs.OutAlike.{fixed_same}
 use Rattle.pool.proofs.Putting.{shapes}
-
--- what the first pieces fix depends on the symbols of modules that are not out, and on which modules of the pool are out
-module _ (A : Arithmetic) (p : Scheme) (sound : Sound A p) (out out' : ℕ → Bool) (same : (n : ℕ) → n < modules p → out n ≡ out' n) (t : Kind) (i : ℕ) where
-  missing_same : missing p t i out ≡ missing p t i out'
-  missing_same = count_same (lost p t i out) (lost p t i out') p.chunks (λ j lj. ap (λ b. member p t i j && b) (same (p.column j) (chunk_module A p sound j lj)))
-
-  used_same : (k : ℕ) → k < parities p t → used p t i out k ≡ used p t i out' k
-  used_same k lk =
-      let a : out (p.d' + k) ≡ out' (p.d' + k) = same (p.d' + k) (parity_module p t k lk) in
-      let b : count (λ q. not (out (p.d' + q))) k ≡ count (λ q. not (out' (p.d' + q))) k =
-      count_same (λ q. not (out (p.d' + q))) (λ q. not (out' (p.d' + q))) k (λ q lq. ap not (same (p.d' + q) (parity_module p t q (omega arith)))) in
-      ap (λ x. not x && ltb (count (λ q. not (out (p.d' + q))) k) (missing p t i out)) a
-      ∙ ap (λ n. not (out' (p.d' + k)) && ltb n (missing p t i out)) b
-      ∙ ap (λ n. not (out' (p.d' + k)) && ltb (count (λ q. not (out' (p.d' + q))) k) n) missing_same
-
-  pub fixed_same : (w w' : Meaning) (u : ℕ) (v : ℕ → ℕ) → ((n slot b : ℕ) → out n ≡ false → w.symbol n slot b ≡ w'.symbol n slot b) → Fixed A p t i out w u v → Fixed A p t i out' w' u v
-  fixed_same w w' u v agree fixed =
-      record {
-        codes = fixed.codes;
-        on_chunks = λ j lj mem o.
-            let fitted : out (p.column j) ≡ false = same (p.column j) (chunk_module A p sound j lj) ∙ o in
-            fixed.on_chunks j lj mem fitted ∙ agree (p.column j) (p.row j) u fitted;
-        on_parities = λ k lk us.
-            let is : used p t i out k ≡ true = used_same k lk ∙ us in
-            let fitted : out (p.d' + k) ≡ false = not-true (out (p.d' + k)) (and_parts (not (out (p.d' + k))) (ltb (count (λ q. not (out (p.d' + q))) k) (missing p t i out)) is).0 in
-            fixed.on_parities k lk is ∙ agree (p.d' + k) (slot_of p t i) u fitted;
-      }
 
 -- the slots of two groups' parities differ
 slot_one : (p : Scheme) (t : Kind) (a b : ℕ) → slot_of p t a ≡ slot_of p t b → a ≡ b

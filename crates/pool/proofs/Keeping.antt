@@ -19,7 +19,7 @@ use Rattle.pool.specs.declared.kinds.Answer.{Answer}
 use Rattle.pool.specs.declared.kinds.Answer.TheVariants.{Refused}
 use Rattle.pool.specs.Book.{settled, group_of, modules, refusal, pulled_phase, dropped_phase}
 use Rattle.pool.specs.Standing.{Standing, out_of, Kept}
-use Rattle.pool.specs.Effects.{changed, holding, stages, keeps_up, written_symbol, staged, carried_symbol, begun_symbol, Refitted, Effect, Does}
+use Rattle.pool.specs.Effects.{changed, holding, is_staged, keeps_up, written_symbol, staged, carried_symbol, begun_symbol, Refitted, Effect, Does}
 use Rattle.pool.proofs.Places.{parity_module, chunk_module, group_below, slot_below}
 use Rattle.pool.proofs.Steps.{write_fits, pull_fits, refit_fits, begin_fits, carry_fits}
 
@@ -162,10 +162,10 @@ module _ (A : Arithmetic) (L : Lawful A) (p : Scheme) (sound : Sound A p) (s : S
       (λ (h : (ltb k (parities p t) && eqb slot at) ≡ true).
       let q = and_parts (ltb k (parities p t)) (eqb slot at) h in
       (parity_module p t k (ltb-true k (parities p t) q.0), omega (arith, eqb-true slot at q.1, slot_below p t (group_of p t c) (group_below A p sound t c lc))))
-      (λ (h : (stages s.phase s.carried p c && (ltb k p.r' && eqb slot (p.stripes + p.row c))) ≡ true).
-      let q = and_parts (ltb k p.r') (eqb slot (p.stripes + p.row c)) (and_parts (stages s.phase s.carried p c) (ltb k p.r' && eqb slot (p.stripes + p.row c)) h).1 in
+      (λ (h : (is_staged s.phase s.carried p c && (ltb k p.r' && eqb slot (p.stripes + p.row c))) ≡ true).
+      let q = and_parts (ltb k p.r') (eqb slot (p.stripes + p.row c)) (and_parts (is_staged s.phase s.carried p c) (ltb k p.r' && eqb slot (p.stripes + p.row c)) h).1 in
       (parity_module p Row k (ltb-true k p.r' q.0), omega (arith, eqb-true slot (p.stripes + p.row c) q.1, sound.in_rows c lc)))
-      (or_cases (ltb k (parities p t) && eqb slot at) (stages s.phase s.carried p c && (ltb k p.r' && eqb slot (p.stripes + p.row c))) e)
+      (or_cases (ltb k (parities p t) && eqb slot at) (is_staged s.phase s.carried p c && (ltb k p.r' && eqb slot (p.stripes + p.row c))) e)
 
   -- new symbols, and nothing else
   with_symbols : (f : ℕ → ℕ → ℕ → ℕ) → ((m slot u : ℕ) → f m slot u < A.order) → ((m slot u : ℕ) → holds s.held m slot u ≡ false → f m slot u ≡ 0) → Kept A p (holding s (changed s.held f))

@@ -9,14 +9,17 @@ pub mod Keeping
 pub mod Laying
 pub mod Runs
 pub mod Totals
+pub mod Changed
 pub mod Sweeps
 pub mod Calls
 pub mod Opened
 pub mod Replaying
+pub mod Gains
 pub mod Growing
 pub mod Loading
 pub mod CarryCalled
 pub mod Asking
+pub mod OutAlike
 pub mod Restoring
 pub mod Putting
 pub mod Going

@@ -1,6 +1,9 @@
 -- What is known of a stripe that is carried. Assumes nothing.
-use Rattle.std.proofs.Common.{◌≡◌, ℕ, ◌+◌, ◌*◌, ◌<◌, ◌≤◌, Bool, cond, not, eqb, leb, [], get_or, sym, ap, ◌∙◌, add-one, arith}
-use Rattle.std.proofs.lemmas.Bool.{le-leb, cond-true}
+use Rattle.std.proofs.Common.{◌≡◌, ℕ, zero, suc, ◌+◌, ◌*◌, ◌<◌, ◌≤◌, Bool, true, false, cond, not, ◌&&◌, ◌||◌, eqb, leb, ◌≢◌, List, [], length, get_or, set, replicate, sym, refl, ap, ◌∙◌, add-one, arith, get_or-set_other, get_or-set_same}
+use mathlib.Core.Logic.{by_cases}
+use native.Mathlib.Decide.{ℕ_discrete}
+use lib.ListN.{get_or-replicate}
+use Rattle.std.proofs.lemmas.Bool.{and_right, or_from, or_left, or_right, le-leb, eq-eqb, ne_eqb, cond-true}
 use Rattle.field.specs.Arithmetic.{Arithmetic}
 use Rattle.field.specs.Sums.{coefficient}
 use Rattle.layout.proofs.OfPlan as layout
@@ -8,12 +11,13 @@ use Rattle.rack.specs.Meaning.{Meaning}
 use Rattle.coding.specs.Schemes.{Scheme, scheme_of}
 use Rattle.coding.specs.Groups.{share, count}
 use Rattle.coding.specs.Pieces.{Grouped}
+use Rattle.coding.specs.declared.group.Group.{Group}
 use Rattle.coding.specs.declared.group.Kind.TheVariants.{Stripe}
 use Rattle.coding.proofs.Counting.{count_same}
 use Rattle.pool.specs.Book.{carried_data, carried_parities}
 use Rattle.pool.specs.declared.load.Load.{Load}
 use Rattle.pool.specs.Effects.{chunk_in, chunks_at}
-use Rattle.pool.specs.Growth.{Loaded}
+use Rattle.pool.specs.Growth.{Loaded, some, touches}
 
 module _ (A : Arithmetic) (x : Load) (h : Loaded A x) where
   abbrev chunk : ℕ → ℕ
@@ -81,3 +85,51 @@ module _ (x : Load) (grouped : Grouped (scheme_of x.plan) Stripe x.group.index x
       ∙ sym (cond-true (leb p.r' p.r) _ p.d test) in
       let b : x.plan.r2 ≡ carried_parities p = sym (cond-true (leb p.r' p.r) p.r' 0 test) in
       λ j. (a j, b j)
+
+-- which rows a stripe touches: marked one by one
+given_first : (t b : Bool) → b ≡ true → t ≡ ((t && b) || false)
+given_first true b e = sym (or_left b false e)
+given_first false b e = refl
+
+none_first : (t b : Bool) → b ≡ false → false ≡ ((t && b) || false)
+none_first t b e = sym (or_from (t && b) false (and_right t b e) refl)
+
+pub first_mark : (t : Bool) (home : ℕ) → home < 14 → (h : ℕ) → h < 14 → get_or (set (replicate 14 false) home t) h false ≡ ((t && eqb h home) || false)
+first_mark t home l h lh =
+    by_cases (ℕ_discrete h home)
+    (λ (e : h ≡ home).
+    ap (λ (j : ℕ). get_or (set (replicate 14 false) home t) j false) e
+    ∙ get_or-set_same (replicate 14 false) home t false l
+    ∙ given_first t (eqb h home) (eq-eqb h home e))
+    (λ (ne : h ≢ home).
+    get_or-set_other (replicate 14 false) home h t false ne ∙ get_or-replicate 14 h false false lh ∙ none_first t (eqb h home) (ne_eqb h home ne))
+
+also : (a b c : Bool) → c ≡ true → true ≡ (a || (b || c))
+also a b c e = sym (or_right a (b || c) (or_right b c e))
+
+no_more : (a b c : Bool) → c ≡ false → (a || b) ≡ (a || (b || c))
+no_more true b c e = refl
+no_more false true c e = refl
+no_more false false c e = sym e
+
+pub more_marked : (xs : List Bool) (first : Bool) (f : ℕ → ℕ) (n h : ℕ) → f n < length xs → get_or xs h false ≡ (first || some (λ e. eqb (f e) h) n) →
+    get_or (set xs (f n) true) h false ≡ (first || some (λ e. eqb (f e) h) (n + 1))
+more_marked xs first f n h l is =
+    let so_far : Bool = some (λ e. eqb (f e) h) n in
+    by_cases (ℕ_discrete h (f n))
+    (λ (e : h ≡ f n).
+    ap (λ (j : ℕ). get_or (set xs (f n) true) j false) e ∙ get_or-set_same xs (f n) true false l ∙ also first so_far (eqb (f n) h) (eq-eqb (f n) h (sym e)))
+    (λ (ne : h ≢ f n). get_or-set_other xs (f n) h true false ne ∙ is ∙ no_more first so_far (eqb (f n) h) (ne_eqb (f n) h (λ e. ne (sym e))))
+    ∙ ap (λ (m : ℕ). first || some (λ e. eqb (f e) h) m) (sym (add-one n))
+
+some_same : (f g : ℕ → Bool) (n : ℕ) → ((e : ℕ) → e < n → f e ≡ g e) → some f n ≡ some g n
+some_same f g zero same = refl
+some_same f g (suc n) same = ap (λ (b : Bool). b || f n) (some_same f g n (λ e l. same e (omega arith))) ∙ ap (λ (b : Bool). some g n || b) (same n (omega arith))
+
+module _ (p : Scheme) (i : ℕ) (group : Group) (grouped : Grouped p Stripe i group) (home : ℕ) (home_is : home ≡ p.home i) where
+  pub all_marked : (n h : ℕ) → n ≡ p.d → ((leb p.r' p.r && eqb h home) || some (λ e. eqb (get_or group.slots e 0) h) n) ≡ touches p i h
+  all_marked n h all =
+      ap (λ (j : ℕ). (leb p.r' p.r && eqb h j) || some (λ e. eqb (get_or group.slots e 0) h) n) home_is
+      ∙ ap (λ (m : ℕ). (leb p.r' p.r && eqb h (p.home i)) || some (λ e. eqb (get_or group.slots e 0) h) m) all
+      ∙ ap (λ (b : Bool). (leb p.r' p.r && eqb h (p.home i)) || b)
+      (some_same (λ e. eqb (get_or group.slots e 0) h) (λ e. eqb (p.row (chunk_in p i e)) h) p.d (λ e l. ap (λ (j : ℕ). eqb j h) (grouped.slots_are e l)))

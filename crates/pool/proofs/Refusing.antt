@@ -6,7 +6,7 @@ use Rattle.field.specs.Arithmetic.{Arithmetic}
 use Rattle.coding.specs.declared.group.Kind.{Kind}
 use Rattle.coding.specs.Schemes.{Scheme, Sound}
 use Rattle.coding.specs.Groups.{groups, parities, member}
-use Rattle.coding.specs.Words.{lost, misses}
+use Rattle.coding.specs.Words.{lost, missing_pieces}
 use Rattle.coding.proofs.Counting.{count_same}
 use Rattle.pool.specs.declared.kinds.Phase.{Phase}
 use Rattle.pool.specs.declared.kinds.Phase.TheVariants.{Before, UnderWay, Voided, After}
@@ -76,7 +76,7 @@ guarded false e x y h = h refl
 
 -- the rules ask for the modules of the pool alone
 module _ (A : Arithmetic) (p : Scheme) (sound : Sound A p) (out out' : ℕ → Bool) (same : (m : ℕ) → m < modules p → out m ≡ out' m) where
-  pub misses_same : (t : Kind) (i : ℕ) → misses p t i out ≡ misses p t i out'
+  pub misses_same : (t : Kind) (i : ℕ) → missing_pieces p t i out ≡ missing_pieces p t i out'
   misses_same t i =
       let a = count_same (lost p t i out) (lost p t i out') p.chunks (λ j lj. ap (λ b. member p t i j && b) (same (p.column j) (chunk_module A p sound j lj))) in
       let b = count_same (λ k. out (p.d' + k)) (λ k. out' (p.d' + k)) (parities p t) (λ k lk. same (p.d' + k) (parity_module p t k lk)) in

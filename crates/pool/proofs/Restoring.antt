@@ -1,7 +1,5 @@
--- The groups that have a piece on a module, and the lowest that passes a test. Assumes nothing.
-use Rattle.std.proofs.Common.{◌≡◌, ℕ, zero, suc, ◌+◌, ◌-◌, ◌<◌, Bool, true, false, ◌&&◌, ◌||◌, eqb, ltb, leb, ◌≢◌, is_some, Some, None, Option, sym, refl, ap, ◌∙◌, ⊎_elim, arith}
-use mathlib.Core.Logic.{by_cases}
-use native.Mathlib.Decide.{ℕ_discrete}
+-- The groups that have a piece on a module. Assumes nothing.
+use Rattle.std.proofs.Common.{◌≡◌, ℕ, ◌+◌, ◌-◌, ◌<◌, Bool, true, false, ◌&&◌, ◌||◌, eqb, ltb, leb, ◌≢◌, is_some, Some, None, Option, sym, refl, ap, ◌∙◌, ⊎_elim, arith}
 use Rattle.std.proofs.lemmas.Bool.{lt-ltb, le-ltb, le-leb, ltb-true, leb-true, and_left, and_right, or_left, and_from, and_parts, eq-eqb, ne_eqb, cases_Bool}
 use Rattle.field.specs.Arithmetic.{Arithmetic}
 use Rattle.layout.specs.declared.plan.Plan.{Plan}
@@ -13,20 +11,8 @@ use Rattle.coding.specs.Pieces.{Grouped}
 use Rattle.coding.proofs.OfPlan as of-plan
 use Rattle.coding.proofs.Counting.{counted, count_none}
 use Rattle.coding.proofs.Grouping.{members}
-use Rattle.pool.specs.Book.{holds_piece, or_last, lowest}
+use Rattle.pool.specs.Book.{holds_piece}
 use Rattle.pool.specs.Restored.{HasChunk, ParityOn}
-
--- the lowest number that passes, where none below it does
-pub lowest_at : (f : ℕ → Bool) (i n : ℕ) → lowest f i ≡ None → f i ≡ true → i < n → lowest f n ≡ Some i
-lowest_at f i zero e q l = absurd (omega arith)
-lowest_at f i (suc n) e q l =
-    by_cases (ℕ_discrete i n)
-    (λ (s : i ≡ n). ap (λ o. or_last o (f n) n) (ap (lowest f) (sym s) ∙ e) ∙ ap (λ b. or_last None b n) (ap f (sym s) ∙ q) ∙ ap Some (sym s))
-    (λ (ne : i ≢ n). ap (λ o. or_last o (f n) n) (lowest_at f i n e q (omega arith)))
-
--- and one more number that does not pass
-pub lowest_more : (f : ℕ → Bool) (i : ℕ) → lowest f i ≡ None → f i ≡ false → lowest f (suc i) ≡ None
-lowest_more f i e q = ap (λ o. or_last o (f i) i) e ∙ ap (λ b. or_last None b i) q
 
 -- an arithmetic for what does not depend on it
 bare : ℕ → Arithmetic

@@ -15,7 +15,7 @@ use Rattle.pool.specs.Book.{Book, settled, group_of, modules, lowest, beyond, ho
 use Rattle.pool.specs.Standing.{Standing, out_of, Kept}
 use Rattle.pool.specs.Agrees.{Agrees}
 use Rattle.pool.specs.Effects.{Effect, Does}
-use Rattle.pool.specs.Law.{of_changeover, DataKept, Follows, EveryCallFollows}
+use Rattle.pool.specs.Law.{of_changeover, DataKept, Follows}
 use Rattle.pool.proofs.Refusing.{lowest_none, passes, passes_at, passes_under_way, is_before_lem, refused_alike}
 use Rattle.pool.proofs.Reading.{holds_image}
 use Rattle.pool.proofs.Writing.{write_agrees}
@@ -159,7 +159,9 @@ module _ (A : Arithmetic) (L : Lawful A) (p : Scheme) (sound : Sound A p) (s : S
         does = does_refused A p s c a t r e f.0 f.1;
       }
 
--- a call of a pool that agrees with a book follows the book
-pub step : EveryCallFollows
+-- whatever call is made of a pool that agrees with a book, over any field and any sound scheme, it follows the book
+pub step :
+    (A : Arithmetic) → Lawful A → (p : Scheme) → Sound A p → (s : Standing) (b : Book) (c : Call) (a : Answer) (t : Standing) →
+    Kept A p s → Agrees A p s b → Does A p s c a t → Follows A p s b c a t
 step A L p sound s b c a t kept agrees does =
     by_refusal A L p sound s b kept agrees c a t (refusal p A.order s.phase s.carried (out_of s) c) refl does

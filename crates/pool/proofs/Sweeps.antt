@@ -1,12 +1,12 @@
 -- The lowest number that passes a test, and a block of places set to 0 slot by slot. Assumes nothing.
-use Rattle.std.proofs.Common.{◌≡◌, ℕ, zero, suc, ◌+◌, ◌<◌, ◌≤◌, Bool, true, false, cond, not, ◌&&◌, eqb, ltb, Some, None, sym, ap, ◌∙◌, subst, ⊎_elim, not-suc-le-zero, add-one, arith}
-use Rattle.std.proofs.lemmas.Bool.{cases_lt, and_from, lt-ltb, le-ltb, le-leb, cond-true, cond-false}
+use Rattle.std.proofs.Common.{◌≡◌, ℕ, zero, suc, ◌+◌, ◌<◌, ◌≤◌, Bool, true, false, cond, ◌&&◌, eqb, ltb, Some, None, sym, ap, ◌∙◌, subst, ⊎_elim, not-suc-le-zero, add-one, arith}
+use Rattle.std.proofs.lemmas.Bool.{cases_lt, and_from, lt-ltb, le-leb, cond-true, cond-false}
 use Rattle.std.proofs.lemmas.Bool.Decides.{nat_tests}
-use Rattle.rack.specs.Meaning.{Meaning, Bounded, pulls}
+use Rattle.rack.specs.Meaning.{Meaning}
 use Rattle.rack.specs.Cleared.{cleared, clears, after_clear}
 use Rattle.pool.specs.Book.{or_last, lowest}
-use Rattle.pool.specs.Effects.{changed}
 use Rattle.pool.specs.Blocks.{in_block, zeroed, Blocked}
+use Rattle.pool.proofs.Changed.{same_symbols}
 
 -- one more number that does not pass
 pub lowest_more : (f : ℕ → Bool) (n : ℕ) → lowest f n ≡ None → f n ≡ false → lowest f (n + 1) ≡ None
@@ -24,29 +24,6 @@ lowest_found f k (suc n) e h l =
     subst P (sym is) (ap (λ o. or_last o (f k) k) e ∙ cond-true (f k) (Some k) None h))
     (cases_lt k n)
 
--- in a bounded memory a module can be pulled where it is fitted
-pub pulls_fitted : (w : Meaning) → Bounded w → (m : ℕ) → pulls w m ≡ w.fitted m
-pulls_fitted w b m =
-    ⊎_elim
-    (λ (h : m < w.modules). ap (λ t. t && w.fitted m) (lt-ltb m w.modules h))
-    (λ (h : w.modules ≤ m). ap (λ t. t && w.fitted m) (le-ltb m w.modules h) ∙ sym (b.outside m h))
-    (cases_lt m w.modules)
-
--- so whether it is out is known from whether it can be pulled
-pub asked : (w : Meaning) → Bounded w → (m : ℕ) (r : Bool) → r ≡ pulls w m → not (w.fitted m) ≡ not r
-asked w b m r e = ap not (sym (e ∙ pulls_fitted w b m))
-
--- other symbols at each place
-changed_same : (w : Meaning) (f h : ℕ → ℕ → ℕ → ℕ) → ((m s u : ℕ) → f m s u ≡ h m s u) → changed w f ≡ changed w h
-changed_same w f h e = λ i. record {
-  order = w.order;
-  modules = w.modules;
-  slots = w.slots;
-  length = w.length;
-  fitted = w.fitted;
-  symbol = λ m s u. e m s u i;
-}
-
 no_slot_point : (m m' s n i slot u x : ℕ) → x ≡ cond (in_block m m' s s n i slot u) 0 x
 no_slot_point m m' s n i slot u x = grind (arith, nat_tests)
 
@@ -55,10 +32,10 @@ no_module_point m s s' n i slot u x = grind (arith, nat_tests)
 
 -- of no slots, and of no modules
 pub zeroed_no_slots : (m m' s n : ℕ) (w : Meaning) → w ≡ zeroed m m' s s n w
-zeroed_no_slots m m' s n w = changed_same w w.symbol _ (λ i slot u. no_slot_point m m' s n i slot u (w.symbol i slot u))
+zeroed_no_slots m m' s n w = same_symbols w w.symbol _ (λ i slot u. no_slot_point m m' s n i slot u (w.symbol i slot u))
 
 pub zeroed_no_modules : (m s s' n : ℕ) (w : Meaning) → w ≡ zeroed m m s s' n w
-zeroed_no_modules m s s' n w = changed_same w w.symbol _ (λ i slot u. no_module_point m s s' n i slot u (w.symbol i slot u))
+zeroed_no_modules m s s' n w = same_symbols w w.symbol _ (λ i slot u. no_module_point m s s' n i slot u (w.symbol i slot u))
 
 slot_point : (m s k n i slot u x : ℕ) → s ≤ k →
     cond (eqb i m && (eqb slot k && ltb u n)) 0 (cond (in_block m (m + 1) s k n i slot u) 0 x) ≡ cond (in_block m (m + 1) s (k + 1) n i slot u) 0 x
@@ -80,12 +57,12 @@ slot_more m s s' k n w v v' b low high e e' =
     e'
     ∙ ap (λ x. after_clear x m k n) e
     ∙ cond-true (clears z m k n) (cleared z m k n) z yes
-    ∙ changed_same w _ _ (λ i slot u. slot_point m s k n i slot u (w.symbol i slot u) low)
+    ∙ same_symbols w _ _ (λ i slot u. slot_point m s k n i slot u (w.symbol i slot u) low)
 
 -- one module more
 pub module_more : (m k s s' n : ℕ) (w v v' : Meaning) → m ≤ k → v ≡ zeroed m k s s' n w → v' ≡ zeroed k (k + 1) s s' n v → v' ≡ zeroed m (k + 1) s s' n w
 module_more m k s s' n w v v' h e e' =
-    e' ∙ ap (zeroed k (k + 1) s s' n) e ∙ changed_same w _ _ (λ i slot u. module_point m k s s' n i slot u (w.symbol i slot u) h)
+    e' ∙ ap (zeroed k (k + 1) s s' n) e ∙ same_symbols w _ _ (λ i slot u. module_point m k s s' n i slot u (w.symbol i slot u) h)
 
 -- each module of a block is one
 pub blocked_at : (m m' s s' n k : ℕ) (w v : Meaning) → Blocked m m' s s' n w → m ≤ k → k < m' → v ≡ zeroed m k s s' n w → Blocked k (k + 1) s s' n v

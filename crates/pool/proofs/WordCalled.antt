@@ -11,6 +11,7 @@ use Rattle.pool.specs.declared.kinds.Call.TheVariants.{Write}
 use Rattle.pool.specs.declared.kinds.Answer.{Answer}
 use Rattle.pool.specs.declared.kinds.Answer.TheVariants.{Done}
 use Rattle.pool.specs.declared.pool.Pool.{Pool}
+use Rattle.pool.specs.declared.words.Found.{Found}
 use Rattle.layout.specs.declared.refusal.Refusal.TheVariants.{NoWord, NoSymbol}
 use Rattle.pool.specs.Book.{refusal}
 use Rattle.pool.specs.Standing.{Standing, out_of, Kept}
@@ -22,7 +23,7 @@ use Rattle.pool.proofs.Steps.{does_granted}
 use Rattle.pool.proofs.Keeping.{kept_step}
 
 -- a write that no check refuses
-write_granted : (A : Arithmetic) (p : Scheme) (s : Standing) (c o v old : ℕ) → c < p.chunks → o < p.len → v < A.order → Looked A p s c o (Ok old) →
+write_granted : (A : Arithmetic) (p : Scheme) (s : Standing) (c o v : ℕ) (old : Found) → c < p.chunks → o < p.len → v < A.order → Looked A p s c o (Ok old) →
     refusal p A.order s.phase s.carried (out_of s) (Write c o v) ≡ None
 write_granted A p s c o v old lc lo lv looked =
     cond-false (leb p.chunks c) (Some (NoWord 1)) _ (lt-leb p.chunks c lc)
@@ -59,12 +60,12 @@ module _ {F R : Type 0} (arithmetic : F → Arithmetic) (valid : R → Type 0) (
         does = does;
       }
 
-  pub write_called : (c o v old : ℕ) → c < (scheme_of x.plan).chunks → o < x.plan.len → v < (arithmetic x.field).order →
-      Looked (arithmetic x.field) (scheme_of x.plan) (standing arithmetic valid meaning x) c o (Ok old) → Wrote arithmetic valid meaning x y c o v old →
+  pub write_called : (c o v : ℕ) (old : Found) → c < (scheme_of x.plan).chunks → o < x.plan.len → v < (arithmetic x.field).order →
+      Looked (arithmetic x.field) (scheme_of x.plan) (standing arithmetic valid meaning x) c o (Ok old) → Wrote arithmetic valid meaning x y c o v old.symbol →
       Called arithmetic valid meaning x y (Write c o v) Done
   write_called c o v old lc lo lv looked wrote =
       let A : Arithmetic = arithmetic x.field in
       let p : Scheme = scheme_of x.plan in
       let s : Standing = standing arithmetic valid meaning x in
       called (Write c o v) Done wrote.rack_is_valid wrote.same_plan wrote.same_field
-      (does_granted A p s (Write c o v) Done (standing arithmetic valid meaning y) (write_granted A p s c o v old lc lo lv looked) (old, looked.1, refl, wrote.written))
+      (does_granted A p s (Write c o v) Done (standing arithmetic valid meaning y) (write_granted A p s c o v old lc lo lv looked) (old.symbol, looked.1, refl, wrote.written))

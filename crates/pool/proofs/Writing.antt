@@ -17,14 +17,14 @@ use Rattle.pool.specs.declared.kinds.Call.TheVariants.{Write}
 use Rattle.pool.specs.Book.{Book, settled, group_of, noted}
 use Rattle.pool.specs.Standing.{Standing}
 use Rattle.pool.specs.Agrees.{in_force, covers, Encoded, Agrees}
-use Rattle.pool.specs.Effects.{changed, holding, stages, keeps_up, written_symbol}
+use Rattle.pool.specs.Effects.{changed, holding, is_staged, keeps_up, written_symbol}
 use Rattle.pool.proofs.Places.{stripe_below, one_place}
 
 module _ (A : Arithmetic) (p : Scheme) (sound : Sound A p) where
   -- a write keeps up the parities in force that cover the chunk, and no other
   keeps_by : (ph : Phase) (n : ℕ) (t : Kind) (i k c : ℕ) → i < groups p t → k < in_force p ph t → c < p.chunks →
       ((ltb k (parities p (settled ph)) && eqb (slot_of p t i) (slot_of p (settled ph) (group_of p (settled ph) c)))
-      || (stages ph n p c && (ltb k p.r' && eqb (slot_of p t i) (slot_of p Row (p.row c))))) ≡ covers p ph n t i c
+      || (is_staged ph n p c && (ltb k p.r' && eqb (slot_of p t i) (slot_of p Row (p.row c))))) ≡ covers p ph n t i c
   keeps_by Before n Stripe i k c li lk lc = grind (arith, nat_tests)
   keeps_by UnderWay n Stripe i k c li lk lc = let h = stripe_below A p sound c lc in grind (arith, nat_tests)
   keeps_by Voided n Stripe i k c li lk lc = grind (arith, nat_tests)

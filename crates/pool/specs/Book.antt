@@ -6,7 +6,7 @@ use Rattle.coding.specs.declared.group.Kind.{Kind}
 use Rattle.coding.specs.declared.group.Kind.TheVariants.{Stripe, Row}
 use Rattle.coding.specs.Schemes.{Scheme}
 use Rattle.coding.specs.Groups.{groups, parities, member, count}
-use Rattle.coding.specs.Words.{misses}
+use Rattle.coding.specs.Words.{missing_pieces}
 use Rattle.pool.specs.declared.kinds.Phase.{Phase}
 use Rattle.pool.specs.declared.kinds.Phase.TheVariants.{Before, UnderWay, Voided, After}
 use Rattle.pool.specs.declared.kinds.Call.{Call}
@@ -62,7 +62,7 @@ lowest f (suc n) = or_last (lowest f n) (f n) n
 
 -- a group misses more pieces than it has parities
 abbrev pub beyond : Scheme → Kind → (ℕ → Bool) → ℕ → Bool
-beyond p t out i = nat_lt (parities p t) (misses p t i out)
+beyond p t out i = nat_lt (parities p t) (missing_pieces p t i out)
 
 -- module m has a piece of group i: a chunk or a parity
 abbrev pub holds_piece : Scheme → Kind → ℕ → ℕ → Bool
@@ -78,8 +78,8 @@ refuse_at None e = None
 refuse_at (Some n) e = Some (e n)
 
 -- chunk c and offset o of a word, and then the checks after these
-abbrev pub word_refusal : Scheme → Phase → (ℕ → Bool) → ℕ → ℕ → Option Refusal → Option Refusal
-word_refusal p ph out c o rest = refuse_if (nat_le p.chunks c) (NoWord 1) (refuse_if (nat_le p.len o) (NoWord 2) rest)
+abbrev pub word_refusal : Scheme → ℕ → ℕ → Option Refusal → Option Refusal
+word_refusal p c o rest = refuse_if (nat_le p.chunks c) (NoWord 1) (refuse_if (nat_le p.len o) (NoWord 2) rest)
 
 -- the repair of a chunk whose module is out
 abbrev pub repair_refusal : Scheme → Phase → (ℕ → Bool) → ℕ → Option Refusal
@@ -102,8 +102,8 @@ is_before After = false
 -- The refusal of a call, if there is one, for a pool over a field of order q that has these modules out, is in phase ph
 -- and has carried n stripes. The checks stand in their order.
 abbrev pub refusal : Scheme → ℕ → Phase → ℕ → (ℕ → Bool) → Call → Option Refusal
-refusal p q ph n out (Read c o) = word_refusal p ph out c o (repair_refusal p ph out c)
-refusal p q ph n out (Write c o v) = word_refusal p ph out c o (refuse_if (nat_le q v) (NoSymbol v) (repair_refusal p ph out c))
+refusal p q ph n out (Read c o) = word_refusal p c o (repair_refusal p ph out c)
+refusal p q ph n out (Write c o v) = word_refusal p c o (refuse_if (nat_le q v) (NoSymbol v) (repair_refusal p ph out c))
 refusal p q ph n out (Pull m) = refuse_if (nat_le (modules p) m) (NoModule m) (refuse_if (out m) (AlreadySo m) None)
 refusal p q ph n out (Refit m) =
     refuse_if (nat_le (modules p) m) (NoModule m)

@@ -32,17 +32,17 @@ abbrev pub holding : Standing → Meaning → Standing
 holding s w = record { phase = s.phase; carried = s.carried; held = w }
 
 -- the changeover is under way, and the stripe of chunk c is carried: the staged parities of its row are sums with it
-abbrev pub stages : Phase → ℕ → Scheme → ℕ → Bool
-stages Before n p c = false
-stages UnderWay n p c = nat_lt (c / p.d) n
-stages Voided n p c = false
-stages After n p c = false
+abbrev pub is_staged : Phase → ℕ → Scheme → ℕ → Bool
+is_staged Before n p c = false
+is_staged UnderWay n p c = nat_lt (c / p.d) n
+is_staged Voided n p c = false
+is_staged After n p c = false
 
 -- parity k in a slot is one that a write to chunk c keeps up: of the settled group of the chunk, or of its staged row
 abbrev pub keeps_up : Scheme → Standing → ℕ → ℕ → ℕ → Bool
 keeps_up p s c k slot =
     (nat_lt k (parities p (settled s.phase)) && slot == slot_of p (settled s.phase) (group_of p (settled s.phase) c))
-    || (stages s.phase s.carried p c && (nat_lt k p.r' && slot == slot_of p Row (p.row c)))
+    || (is_staged s.phase s.carried p c && (nat_lt k p.r' && slot == slot_of p Row (p.row c)))
 
 -- a write of v over old at offset o of chunk c: on fitted modules, the chunk has v, and to each parity that is kept up its
 -- coefficient times v minus old is added

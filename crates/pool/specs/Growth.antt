@@ -1,5 +1,5 @@
--- What the steps of carrying a stripe do to the staged parities. Assumes nothing.
-use Rattle.std.specs.Prelude.{◌≡◌, ℕ, ◌+◌, ◌-◌, ◌<◌, ◌≤◌, Bool, true, cond, ◌&&◌, List, [], ◌==◌, nat_le, nat_lt, slice_index, slice_index_or}
+-- What the steps of carrying a stripe do to the staged parities. No contract of a public call rests on it. Assumes nothing.
+use Rattle.std.specs.Prelude.{◌≡◌, ℕ, zero, suc, ◌+◌, ◌-◌, ◌<◌, ◌≤◌, Bool, true, false, cond, ◌&&◌, ◌||◌, List, [], ◌==◌, nat_eq, nat_le, slice_index, slice_index_or}
 use Rattle.field.specs.Arithmetic.{Arithmetic}
 use Rattle.layout.specs.declared.plan.Plan.{Plan}
 use Rattle.rack.specs.Meaning.{Meaning}
@@ -11,16 +11,17 @@ use Rattle.pool.specs.declared.load.Load.{Load}
 use Rattle.pool.specs.Book.{modules}
 use Rattle.pool.specs.Effects.{changed, staged, chunk_in, own_row, outside_row, gain, chunks_at}
 
--- a memory that is large enough, has the field's order, and has all modules fitted
-pub record Room (A : Arithmetic) (p : Scheme) (q m s n : ℕ) (fitted : ℕ → Bool) : Type 0 where
+-- four numbers and flags of a memory that is large enough, has the field's order, and has all modules fitted
+pub record Suits (A : Arithmetic) (p : Scheme) (q m s n : ℕ) (fitted : ℕ → Bool) : Type 0 where
   pub order_is : q ≡ A.order
   pub modules_fit : modules p ≤ m
   pub slots_fit : p.stripes + p.rows ≤ s
   pub length_fits : p.len ≤ n
   pub whole : (j : ℕ) → j < modules p → fitted j ≡ true
 
+-- the same of a memory
 abbrev pub Whole : Arithmetic → Scheme → Meaning → Type 0
-Whole A p w = Room A p w.order w.modules w.slots w.length w.fitted
+Whole A p w = Suits A p w.order w.modules w.slots w.length w.fitted
 
 -- at offset o, f k h is added to parity k of each staged row h
 abbrev pub grown_symbol : Arithmetic → Scheme → Meaning → ℕ → (ℕ → ℕ → ℕ) → ℕ → ℕ → ℕ → ℕ
@@ -46,12 +47,24 @@ home_gain p i y k h = cond (nat_le p.r' p.r) (cond (h == p.home i) (y k) 0) 0
 abbrev pub stripe_gain : Arithmetic → Scheme → ℕ → Meaning → ℕ → ℕ → ℕ → ℕ
 stripe_gain A p i w o k h = gain A p i k (w.symbol (p.d' + k) i o) (chunks_at p w o) h
 
--- stripe i is carried at the offsets below n
-abbrev pub carried_below : Arithmetic → Scheme → ℕ → Meaning → ℕ → ℕ → ℕ → ℕ → ℕ
-carried_below A p i w n m slot u =
-    cond (staged p m slot u && nat_lt u n)
-    (A.add (w.symbol m slot u) (gain A p i (m - p.d') (w.symbol m i u) (chunks_at p w u) (slot - p.stripes)))
-    (w.symbol m slot u)
+-- g has, row by row, f k h for each parity k of row h
+abbrev pub Amounts : Scheme → (ℕ → ℕ → ℕ) → List (List ℕ) → Type 0
+Amounts p f g = (k h : ℕ) → k < p.r' → h < p.rows → slice_index (slice_index_or g h []) k ≡ f k h
+
+-- y is x with f k h added, for each parity k below n of each row h below m at which x has a code
+abbrev pub Adds : Arithmetic → ℕ → ℕ → (ℕ → ℕ → ℕ) → List (List ℕ) → List (List ℕ) → Type 0
+Adds A n m f x y =
+    (k h : ℕ) → k < n → h < m → slice_index (slice_index_or x h []) k < A.order → slice_index (slice_index_or y h []) k ≡ A.add (slice_index (slice_index_or x h []) k) (f k h)
+
+-- some number below n passes a test
+abbrev pub some : (ℕ → Bool) → ℕ → Bool
+some f zero = false
+some f (suc n) = some f n || f n
+
+-- carrying stripe i adds to the staged parities of row h: it is the home row and given the stripe's parities, or a chunk of the
+-- stripe lies in it
+abbrev pub touches : Scheme → ℕ → ℕ → Bool
+touches p i h = (nat_le p.r' p.r && h == p.home i) || some (λ e. nat_eq (p.row (chunk_in p i e)) h) p.d
 
 -- x has all that there is to know of its stripe
 pub record Loaded (A : Arithmetic) (x : Load) : Type 0 where
@@ -59,6 +72,8 @@ pub record Loaded (A : Arithmetic) (x : Load) : Type 0 where
   pub grouped : Grouped (scheme_of x.plan) Stripe x.group.index x.group
   pub home_is : x.home ≡ (scheme_of x.plan).home x.group.index
   pub base_is : x.base ≡ (scheme_of x.plan).stripes
+  pub rows_is : x.rows ≡ (scheme_of x.plan).rows
+  pub touched_are : (h : ℕ) → h < (scheme_of x.plan).rows → slice_index_or x.touched h false ≡ touches (scheme_of x.plan) x.group.index h
   pub weights_are : (k : ℕ) → k < 4 → Weights A x.group k (slice_index_or x.weights k [])
 
 -- x is what carrying stripe i of a plan needs

@@ -1,15 +1,15 @@
 -- The law over every list of calls. Assumes nothing.
 use Rattle.std.specs.Prelude.{◌≡◌, ℕ, ◌+◌, ◌<◌, Bool, true, false, List, [], ◌∷◌, ◌++◌, ◌≢◌}
 use Rattle.std.specs.List.{AllByRecursion}
-use Rattle.field.specs.Arithmetic.{Arithmetic, Lawful}
+use Rattle.field.specs.Arithmetic.{Arithmetic}
 use Rattle.rack.specs.Meaning.{Meaning}
-use Rattle.coding.specs.Schemes.{Scheme, Sound}
+use Rattle.coding.specs.Schemes.{Scheme}
 use Rattle.pool.specs.declared.kinds.Call.{Call}
 use Rattle.pool.specs.declared.kinds.Call.TheVariants.{Read, Write, Pull, Refit, Begin, Carry, Ready, Close, Drop}
 use Rattle.pool.specs.declared.kinds.Answer.{Answer}
 use Rattle.pool.specs.declared.kinds.Answer.TheVariants.{Symbol, Carried, Done, Refused}
 use Rattle.pool.specs.Book.{Book, answer, after}
-use Rattle.pool.specs.Standing.{Standing, Kept}
+use Rattle.pool.specs.Standing.{Standing}
 use Rattle.pool.specs.Agrees.{Agrees}
 use Rattle.pool.specs.Effects.{Does}
 
@@ -36,12 +36,6 @@ pub record Follows (A : Arithmetic) (p : Scheme) (s : Standing) (b : Book) (c : 
   pub agrees : Agrees A p t (after p A.order b c)
   pub keeps : of_changeover c ≡ true → DataKept p s.held t.held
   pub does : Does A p s c a t
-
--- whatever call is made of a pool that agrees with a book, over any field and any sound scheme, it follows the book
-abbrev pub EveryCallFollows : Type 0
-EveryCallFollows =
-    (A : Arithmetic) → Lawful A → (p : Scheme) → Sound A p → (s : Standing) (b : Book) (c : Call) (a : Answer) (t : Standing) →
-    Kept A p s → Agrees A p s b → Does A p s c a t → Follows A p s b c a t
 
 -- a list of calls takes a pool from s to e, and each call follows the book
 abbrev pub Runs : Arithmetic → Scheme → Standing → Book → List Call → List Answer → Standing → Type 0

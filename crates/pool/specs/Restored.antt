@@ -1,4 +1,4 @@
--- What the steps of fitting a module again give. Assumes nothing.
+-- What the steps of fitting a module again give. No contract of a public call rests on it. Assumes nothing.
 use Rattle.std.specs.Prelude.{◌≡◌, ℕ, ◌+◌, ◌<◌, ◌≤◌, Bool, true, false, cond, ◌&&◌, ◌⊎◌, List, Option, MatchOption, ◌==◌, ◌≢◌, nat_lt, slice_index}
 use Rattle.field.specs.Arithmetic.{Arithmetic}
 use Rattle.rack.specs.Meaning.{Meaning, flagged, after_put}
@@ -7,7 +7,7 @@ use Rattle.coding.specs.declared.group.Kind.{Kind}
 use Rattle.coding.specs.declared.repair.Repair.{Repair}
 use Rattle.coding.specs.Schemes.{Scheme, Sound}
 use Rattle.coding.specs.Groups.{groups, size, parities, member, chunk_of, slot_of, parity}
-use Rattle.coding.specs.Pieces.{Grouped}
+use Rattle.coding.specs.Pieces.{Grouped, Weights}
 use Rattle.coding.specs.Repairs.{Ready}
 use Rattle.coding.specs.Words.{Fixed}
 use Rattle.pool.specs.Book.{holds_piece, beyond}
@@ -21,6 +21,11 @@ pub record HasChunk (g : Group) (m : ℕ) (r : Bool) : Type 0 where
 -- r tells which parity of a group is on module m
 abbrev pub ParityOn : Group → ℕ → Option ℕ → Type 0
 ParityOn g m r = MatchOption r ((k : ℕ) → k < 4 → k < g.parities → g.first + k ≢ m) (λ k. (k < 4) × (k < g.parities) × (g.first + k ≡ m))
+
+-- r has the coefficients of a group's chunks in its parity on module m, if it has one there
+abbrev pub WeightsOn : Arithmetic → Group → ℕ → Option (List ℕ) → Type 0
+WeightsOn A g m r =
+    MatchOption r ((k : ℕ) → k < 4 → k < g.parities → g.first + k ≢ m) (λ ws. (k : ℕ) × (k < 4) × (k < g.parities) × (g.first + k ≡ m) × Weights A g k ws)
 
 -- group i has a piece in a slot of module m
 abbrev pub At : Scheme → Kind → ℕ → ℕ → ℕ → Type 0

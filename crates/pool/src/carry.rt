@@ -1,18 +1,17 @@
 // Carrying a stripe: its chunks go into the staged parities of their rows.
-ghost use Rattle.std.specs.Prelude.{◌≡◌, ℕ, ◌+◌, ◌<◌, ◌≤◌, true, not, [], None, MatchOption, ◌==◌, slice_index, slice_index_or};
+ghost use Rattle.std.specs.Prelude.{◌≡◌, ℕ, ◌+◌, ◌<◌, ◌≤◌, false, not, [], None, MatchOption, ◌==◌, slice_index, slice_index_or};
 ghost use Rattle.coding.specs.Groups.{count};
 ghost use Rattle.coding.specs.declared.group.Kind.TheVariants.{Stripe};
 ghost use Rattle.coding.specs.Pieces.{Grouped, Weights};
 ghost use Rattle.coding.specs.Schemes.{scheme_of};
-ghost use Rattle.field.specs.Sums.{total};
 ghost use Rattle.pool.specs.Book.{carried_data, carried_parities, under_way_refusal};
 ghost use Rattle.pool.specs.Effects.{changed, carried_symbol, chunk_in, chunks_at, outside_row, own_row};
-ghost use Rattle.pool.specs.Growth.{Grows, Loaded, LoadOf, Shares, Whole, chunk_gain, home_gain, stripe_gain, to_row};
+ghost use Rattle.pool.specs.Growth.{Adds, Amounts, Grows, Loaded, LoadOf, Shares, Whole, chunk_gain, home_gain, stripe_gain, to_row, touches};
 ghost use Rattle.pool.specs.Pools.{Obeys};
 ghost use Rattle.pool.specs.Results.{of_counts};
 ghost use Rattle.pool.specs.declared.kinds.Call.TheVariants.{Carry};
-ghost use Rattle.rack.specs.Meaning.{holds, stored};
 
+use crate::adding::add_at;
 use crate::kinds::Phase;
 use crate::load::Load;
 use crate::orders::Order;
@@ -25,13 +24,8 @@ use layout::plan::Plan;
 use layout::refusal::Refusal;
 use rack::rack::Rack;
 
-/// Adds to the symbol at a place.
-fn add_at<F: Field, R: Rack>(field: &F, rack: &mut R, module: u16, slot: u16, offset: u16, by: u16)
-    ensures { R.valid rack.old → (R.meaning rack.old).order ≡ (F.arithmetic field.now).order → holds (R.meaning rack.old) «module» slot offset ≡ true → R.valid rack.new × (R.meaning rack.new ≡ stored (R.meaning rack.old) «module» slot offset ((F.arithmetic field.now).add ((R.meaning rack.old).symbol «module» slot offset) by)) }
-{
-    let old = symbol_at(rack, module, slot, offset);
-    let _ = rack.put(module, slot, offset, field.add(old, by));
-}
+/// What a stripe adds at an offset: of each row, to each of its staged parities.
+type Gains = [[u16; 4]; 14];
 
 /// Adds to the staged parities of a row at an offset, to each its share.
 fn add_to_row<F: Field, R: Rack>(
@@ -49,8 +43,8 @@ fn add_to_row<F: Field, R: Rack>(
     let slot = load.base + row;
     for k in 0..load.plan.r2 {
         add_at(
-            field,
             rack,
+            field,
             load.plan.d2 + k,
             slot,
             offset,
@@ -84,55 +78,88 @@ fn negated<F: Field>(field: &F, shares: [u16; 4]) -> [u16; 4]
     negs
 }
 
-/// Adds chunk `e` of the stripe at an offset to its own row.
-fn add_chunk<F: Field, R: Rack>(field: &F, rack: &mut R, load: &Load, e: usize, offset: u16)
-    requires loaded { Loaded (F.arithmetic field.now) load.now }
-    requires within { e < load.now.group.size }
-    ensures { Grows R.valid R.meaning (F.arithmetic field.now) (scheme_of load.now.plan) rack.old rack.new offset (λ k h. own_row (F.arithmetic field.now) (scheme_of load.now.plan) load.now.group.index k (chunks_at (scheme_of load.now.plan) (R.meaning rack.old) offset) h e) }
+/// The sums of two lists, place by place.
+fn sums<F: Field>(field: &F, a: [u16; 4], b: [u16; 4]) -> [u16; 4]
+    ensures { (k : ℕ) → k < 4 → slice_index result k ≡ (F.arithmetic field.now).add (slice_index a k) (slice_index b k) }
 {
-    let shares = shares_at(field, rack, load, e, offset);
-    add_to_row(field, rack, load, load.group.slots[e], offset, shares);
+    let mut all = [0; 4];
+    for k in 0..4 {
+        all[k] = field.add(a[k], b[k]);
+    }
+    all
 }
 
-/// Moves chunk `e` of the stripe at an offset from the home row, which has the stripe's parities, to its own row.
-fn move_chunk<F: Field, R: Rack>(field: &F, rack: &mut R, load: &Load, e: usize, offset: u16)
+/// The gains with shares added to those of a row.
+fn add_shares<F: Field>(field: &F, mut gains: Gains, row: u16, shares: [u16; 4]) -> Gains
+    requires inside { row < 14 }
+    ensures { Adds (F.arithmetic field.now) 4 14 (to_row row shares) gains result }
+{
+    let more = sums(field, gains[row as usize], shares);
+    gains[row as usize] = more;
+    gains
+}
+
+/// The gains with chunk `e` of the stripe added to its own row.
+fn add_chunk<F: Field, R: Rack>(
+    field: &F,
+    rack: &R,
+    load: &Load,
+    gains: Gains,
+    e: usize,
+    offset: u16,
+) -> Gains
     requires loaded { Loaded (F.arithmetic field.now) load.now }
     requires within { e < load.now.group.size }
-    ensures { Grows R.valid R.meaning (F.arithmetic field.now) (scheme_of load.now.plan) rack.old rack.new offset (λ k h. outside_row (F.arithmetic field.now) (scheme_of load.now.plan) load.now.group.index k (chunks_at (scheme_of load.now.plan) (R.meaning rack.old) offset) h e) }
+    ensures { R.valid rack.now → Adds (F.arithmetic field.now) (scheme_of load.now.plan).r' (scheme_of load.now.plan).rows (λ k h. own_row (F.arithmetic field.now) (scheme_of load.now.plan) load.now.group.index k (chunks_at (scheme_of load.now.plan) (R.meaning rack.now) offset) h e) gains result }
+{
+    let shares = shares_at(field, rack, load, e, offset);
+    add_shares(field, gains, load.group.slots[e], shares)
+}
+
+/// The gains with chunk `e` of the stripe moved from the home row, which has the stripe's parities, to its own row. A chunk of
+/// the home row is not fetched.
+fn move_chunk<F: Field, R: Rack>(
+    field: &F,
+    rack: &R,
+    load: &Load,
+    gains: Gains,
+    e: usize,
+    offset: u16,
+) -> Gains
+    requires loaded { Loaded (F.arithmetic field.now) load.now }
+    requires within { e < load.now.group.size }
+    ensures { R.valid rack.now → Adds (F.arithmetic field.now) (scheme_of load.now.plan).r' (scheme_of load.now.plan).rows (λ k h. outside_row (F.arithmetic field.now) (scheme_of load.now.plan) load.now.group.index k (chunks_at (scheme_of load.now.plan) (R.meaning rack.now) offset) h e) gains result }
 {
     let row = load.group.slots[e];
     if row == load.home {
-        return;
+        return gains;
     }
     let shares = shares_at(field, rack, load, e, offset);
-    add_to_row(field, rack, load, load.home, offset, negated(field, shares));
-    add_to_row(field, rack, load, row, offset, shares);
+    let taken = add_shares(field, gains, load.home, negated(field, shares));
+    add_shares(field, taken, row, shares)
 }
 
-/// Carries chunk `e` of the stripe at an offset.
-fn carry_chunk<F: Field, R: Rack>(field: &F, rack: &mut R, load: &Load, e: usize, offset: u16)
+/// The gains with what chunk `e` of the stripe adds.
+fn gain_chunk<F: Field, R: Rack>(
+    field: &F,
+    rack: &R,
+    load: &Load,
+    gains: Gains,
+    e: usize,
+    offset: u16,
+) -> Gains
     requires loaded { Loaded (F.arithmetic field.now) load.now }
     requires within { e < load.now.group.size }
-    ensures { Grows R.valid R.meaning (F.arithmetic field.now) (scheme_of load.now.plan) rack.old rack.new offset (chunk_gain (F.arithmetic field.now) (scheme_of load.now.plan) load.now.group.index (chunks_at (scheme_of load.now.plan) (R.meaning rack.old) offset) e) }
+    ensures { R.valid rack.now → Adds (F.arithmetic field.now) (scheme_of load.now.plan).r' (scheme_of load.now.plan).rows (chunk_gain (F.arithmetic field.now) (scheme_of load.now.plan) load.now.group.index (chunks_at (scheme_of load.now.plan) (R.meaning rack.now) offset) e) gains result }
 {
     if load.plan.r2 <= load.plan.r {
-        move_chunk(field, rack, load, e, offset);
+        move_chunk(field, rack, load, gains, e, offset)
     } else {
-        add_chunk(field, rack, load, e, offset);
+        add_chunk(field, rack, load, gains, e, offset)
     }
 }
 
-/// Carries the chunks of the stripe at an offset.
-fn carry_chunks<F: Field, R: Rack>(field: &F, rack: &mut R, load: &Load, offset: u16)
-    requires loaded { Loaded (F.arithmetic field.now) load.now }
-    ensures { Grows R.valid R.meaning (F.arithmetic field.now) (scheme_of load.now.plan) rack.old rack.new offset (λ k h. total (F.arithmetic field.now) (scheme_of load.now.plan).d (λ e. chunk_gain (F.arithmetic field.now) (scheme_of load.now.plan) load.now.group.index (chunks_at (scheme_of load.now.plan) (R.meaning rack.old) offset) e k h)) }
-{
-    for e in 0..load.group.size as usize {
-        carry_chunk(field, rack, load, e, offset);
-    }
-}
-
-/// The parities of the stripe at an offset, as many as a row has.
+/// The parities of the stripe at an offset, as many as a row has. Each is fetched once.
 fn parities_at<R: Rack>(rack: &R, load: &Load, offset: u16) -> [u16; 4]
     ensures { R.valid rack.now → (k : ℕ) → k < (scheme_of load.now.plan).r' → slice_index result k ≡ (R.meaning rack.now).symbol ((scheme_of load.now.plan).d' + k) load.now.group.index offset }
 {
@@ -143,24 +170,43 @@ fn parities_at<R: Rack>(rack: &R, load: &Load, offset: u16) -> [u16; 4]
     parities
 }
 
-/// Adds the parities of the stripe at an offset to its home row, unless a row has more parities than a stripe.
-fn carry_parities<F: Field, R: Rack>(field: &F, rack: &mut R, load: &Load, offset: u16)
-    requires loaded { Loaded (F.arithmetic field.now) load.now }
-    ensures { Grows R.valid R.meaning (F.arithmetic field.now) (scheme_of load.now.plan) rack.old rack.new offset (home_gain (scheme_of load.now.plan) load.now.group.index (λ k. (R.meaning rack.old).symbol ((scheme_of load.now.plan).d' + k) load.now.group.index offset)) }
+/// The gains of the stripe's own parities: they go to its home row, unless a row has more parities than a stripe.
+fn gain_parities<R: Rack>(rack: &R, load: &Load, offset: u16) -> Gains
+    requires inside { load.now.home < 14 }
+    requires home { load.now.home ≡ (scheme_of load.now.plan).home load.now.group.index }
+    ensures { R.valid rack.now → Amounts (scheme_of load.now.plan) (home_gain (scheme_of load.now.plan) load.now.group.index (λ k. (R.meaning rack.now).symbol ((scheme_of load.now.plan).d' + k) load.now.group.index offset)) result }
 {
+    let mut gains = [[0; 4]; 14];
     if load.plan.r2 <= load.plan.r {
-        let parities = parities_at(rack, load, offset);
-        add_to_row(field, rack, load, load.home, offset, parities);
+        gains[load.home as usize] = parities_at(rack, load, offset);
     }
+    gains
 }
 
-/// Carries the stripe at one offset.
+/// What the stripe adds at an offset to each staged parity of each row. Each chunk and each parity that it takes is fetched once.
+fn gains_at<F: Field, R: Rack>(field: &F, rack: &R, load: &Load, offset: u16) -> Gains
+    requires loaded { Loaded (F.arithmetic field.now) load.now }
+    ensures { R.valid rack.now → (R.meaning rack.now).order ≡ (F.arithmetic field.now).order → Amounts (scheme_of load.now.plan) (stripe_gain (F.arithmetic field.now) (scheme_of load.now.plan) load.now.group.index (R.meaning rack.now) offset) result }
+{
+    let mut gains = gain_parities(rack, load, offset);
+    for e in 0..load.group.size as usize {
+        let more = gain_chunk(field, rack, load, gains, e, offset);
+        gains = more;
+    }
+    gains
+}
+
+/// Carries the stripe at one offset. The staged parities of each row that it touches are fetched and stored once.
 fn carry_at<F: Field, R: Rack>(field: &F, rack: &mut R, load: &Load, offset: u16)
     requires loaded { Loaded (F.arithmetic field.now) load.now }
     ensures { Grows R.valid R.meaning (F.arithmetic field.now) (scheme_of load.now.plan) rack.old rack.new offset (stripe_gain (F.arithmetic field.now) (scheme_of load.now.plan) load.now.group.index (R.meaning rack.old) offset) }
 {
-    carry_parities(field, rack, load, offset);
-    carry_chunks(field, rack, load, offset);
+    let gains = gains_at(field, rack, load, offset);
+    for row in 0..load.rows {
+        if load.touched[row as usize] {
+            add_to_row(field, rack, load, row, offset, gains[row as usize]);
+        }
+    }
 }
 
 /// Carries the stripe, offset by offset.
@@ -184,18 +230,36 @@ fn weights_of<F: Field>(field: &F, group: &Group) -> [[u16; 14]; 4]
     all
 }
 
+/// Which rows the stripe touches: its home row where that is given its parities, and the rows of its chunks.
+fn touched_rows(plan: &Plan, group: &Group, home: u16) -> [bool; 14]
+    requires inside { group.now.index < (scheme_of plan.now).stripes }
+    requires grouped { Grouped (scheme_of plan.now) Stripe group.now.index group.now }
+    requires home { home ≡ (scheme_of plan.now).home group.now.index }
+    ensures { (h : ℕ) → h < (scheme_of plan.now).rows → slice_index_or result h false ≡ touches (scheme_of plan.now) group.now.index h }
+{
+    let mut touched = [false; 14];
+    touched[home as usize] = plan.r2 <= plan.r;
+    for e in 0..group.size as usize {
+        touched[group.slots[e] as usize] = true;
+    }
+    touched
+}
+
 /// What carrying a stripe needs; none where the plan has no such stripe.
 fn load_of<F: Field>(field: &F, plan: &Plan, stripe: u16) -> Option<Load>
     ensures { MatchOption result ((scheme_of plan.now).stripes ≤ stripe) (LoadOf (F.arithmetic field.now) plan.now stripe) }
 {
     let group = Group::of(plan, Kind::Stripe, stripe)?;
     let home = plan.home(stripe)?;
+    let touched = touched_rows(plan, &group, home);
     let weights = weights_of(field, &group);
     Some(Load {
         plan: *plan,
         group,
         home,
         base: plan.stripes(),
+        rows: plan.rows(),
+        touched,
         weights,
     })
 }

@@ -12,6 +12,10 @@ pub(crate) struct Load {
     pub(crate) home: u16,
     /// the slot of the staged parities of row 0
     pub(crate) base: u16,
+    /// how many rows there are
+    pub(crate) rows: u16,
+    /// of each row, whether carrying the stripe adds to its staged parities
+    pub(crate) touched: [bool; 14],
     /// of each parity, the coefficients of the stripe's chunks
     pub(crate) weights: [[u16; 14]; 4],
 }

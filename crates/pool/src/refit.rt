@@ -7,14 +7,14 @@ ghost use Rattle.pool.specs.Book.{holds_piece, beyond, lowest};
 ghost use Rattle.pool.specs.Pools.{Obeys};
 ghost use Rattle.pool.specs.Results.{of_done};
 ghost use Rattle.pool.specs.declared.kinds.Call.TheVariants.{Refit};
-ghost use Rattle.pool.specs.Restored.{HasChunk, ParityOn, chunk_put, PutsChunks, PutsParity, PutsBack, Goes, Goes_on, GoesThrough};
+ghost use Rattle.pool.specs.Restored.{HasChunk, ParityOn, WeightsOn, chunk_put, PutsChunks, PutsParity, PutsBack, Goes, Goes_on, GoesThrough};
 
 use crate::groups::settled_kind;
 use crate::outs::outs;
 use crate::pool::Pool;
 use coding::group::{Group, Kind};
-use coding::parity::parity_of;
-use coding::prepare::prepare;
+use coding::parity::{parity_of, weights};
+use coding::prepare::{is_beyond, prepare};
 use coding::repair::Repair;
 use field::Field;
 use layout::plan::Plan;
@@ -69,31 +69,18 @@ fn has_piece(plan: &Plan, kind: Kind, index: u16, module: u16) -> bool
 }
 
 /// Whether a group that is there has a piece on a module, and misses more pieces than it has parities.
-fn is_beyond<F: Field>(
-    plan: &Plan,
-    field: &F,
-    kind: Kind,
-    index: u16,
-    module: u16,
-    out: [bool; 32],
-) -> bool
+fn cannot_restore(plan: &Plan, kind: Kind, index: u16, module: u16, out: [bool; 32]) -> bool
     ensures { index < groups (scheme_of plan.now) kind → result ≡ (holds_piece (scheme_of plan.now) kind «module» index && beyond (scheme_of plan.now) kind (flags out) index) }
 {
-    has_piece(plan, kind, index, module) && prepare(plan, field, kind, index, out).is_err()
+    has_piece(plan, kind, index, module) && is_beyond(plan, kind, index, out)
 }
 
 /// The lowest group that has a piece on a module, and misses more pieces than it has parities.
-fn first_beyond<F: Field>(
-    plan: &Plan,
-    field: &F,
-    kind: Kind,
-    module: u16,
-    out: [bool; 32],
-) -> Option<u16>
+fn first_beyond(plan: &Plan, kind: Kind, module: u16, out: [bool; 32]) -> Option<u16>
     ensures { result ≡ lowest (λ i. holds_piece (scheme_of plan.now) kind «module» i && beyond (scheme_of plan.now) kind (flags out) i) (groups (scheme_of plan.now) kind) }
 {
     for i in 0..groups_of(plan, kind) {
-        if is_beyond(plan, field, kind, i, module, out) {
+        if cannot_restore(plan, kind, i, module, out) {
             return Some(i);
         }
     }
@@ -126,42 +113,62 @@ fn put_chunks<R: Rack>(rack: &mut R, group: &Group, module: u16, offset: u16, ch
     }
 }
 
-/// Puts the parity of a group that is on a module back, at one offset.
+/// The coefficients of a group's chunks in its parity on a module, if it has one there.
+fn weights_on<F: Field>(field: &F, group: &Group, module: u16) -> Option<[u16; 14]>
+    ensures { WeightsOn (F.arithmetic field.now) group.now «module» result }
+{
+    let k = parity_on(group, module)?;
+    Some(weights(field, group, k))
+}
+
+/// Puts the parity of a group that is on a module back, at one offset. `weights` has its coefficients.
 fn put_parity<F: Field, R: Rack>(
     field: &F,
     rack: &mut R,
     group: &Group,
     module: u16,
     offset: u16,
+    weights: Option<[u16; 14]>,
     chunks: [u16; 14],
 )
+    requires { WeightsOn (F.arithmetic field.now) group.now «module» weights }
     ensures { R.valid rack.old → R.valid rack.new × PutsParity (F.arithmetic field.now) group.now «module» offset chunks (R.meaning rack.old) (R.meaning rack.new) }
 {
-    if let Some(k) = parity_on(group, module) {
+    if let Some(weights) = weights {
         let _ = rack.put(
             module,
             group.slot,
             offset,
-            parity_of(field, group, k, chunks),
+            parity_of(field, weights, chunks),
         );
     }
 }
 
-/// Rebuilds the pieces of a group that are on a module, at one offset. Each symbol is fetched once.
-fn restore_at<F: Field, R: Rack>(field: &F, rack: &mut R, repair: &Repair, module: u16, offset: u16)
+/// Rebuilds the pieces of a group that are on a module, at one offset. Each symbol is fetched once. `weights` has the
+/// coefficients of the group's parity on the module.
+fn restore_at<F: Field, R: Rack>(
+    field: &F,
+    rack: &mut R,
+    repair: &Repair,
+    module: u16,
+    offset: u16,
+    weights: Option<[u16; 14]>,
+)
+    requires { WeightsOn (F.arithmetic field.now) repair.now.group «module» weights }
     ensures { R.valid rack.old → R.valid rack.new × PutsBack (F.arithmetic field.now) repair.now «module» offset (R.meaning rack.old) (R.meaning rack.new) }
 {
     let chunks = repair.chunks_at(field, rack, offset);
     put_chunks(rack, &repair.group, module, offset, chunks);
-    put_parity(field, rack, &repair.group, module, offset, chunks);
+    put_parity(field, rack, &repair.group, module, offset, weights, chunks);
 }
 
 /// Rebuilds the pieces of a group that are on a module, at the offsets below `len`.
 fn restore_group<F: Field, R: Rack>(field: &F, rack: &mut R, repair: &Repair, module: u16, len: u16)
     ensures { R.valid rack.old → R.valid rack.new × Goes (F.arithmetic field.now) repair.now «module» len (R.meaning rack.old) (R.meaning rack.new) }
 {
+    let weights = weights_on(field, &repair.group, module);
     for offset in 0..len {
-        restore_at(field, rack, repair, module, offset);
+        restore_at(field, rack, repair, module, offset, weights);
     }
 }
 
@@ -214,7 +221,7 @@ impl<F: Field, R: Rack> Pool<F, R> {
         }
         let out = outs(&self.rack, &self.plan);
         let kind = settled_kind(self.phase);
-        if let Some(i) = first_beyond(&self.plan, &self.field, kind, module, out) {
+        if let Some(i) = first_beyond(&self.plan, kind, module, out) {
             return Err(Refusal::BeyondRepair(i));
         }
         let _ = self.rack.fit(module);

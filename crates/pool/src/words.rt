@@ -1,15 +1,15 @@
 // Reading and writing a word.
-ghost use Rattle.std.specs.Prelude.{◌≡◌, ◌<◌, false, Some};
+ghost use Rattle.std.specs.Prelude.{◌≡◌, ◌<◌, false, Some, Ok};
 ghost use Rattle.coding.specs.Schemes.{scheme_of};
 ghost use Rattle.layout.specs.Places.{CellOf};
-ghost use Rattle.pool.specs.Effects.{stages};
+ghost use Rattle.pool.specs.Effects.{is_staged};
 ghost use Rattle.pool.specs.Pools.{Held, Obeys, standing};
 ghost use Rattle.pool.specs.Results.{of_done, of_symbol};
 ghost use Rattle.pool.specs.WordCalls.{Wrote};
 ghost use Rattle.pool.specs.WordSteps.{Looked};
 ghost use Rattle.pool.specs.declared.kinds.Call.TheVariants.{Read, Write};
 
-use crate::adding::add_parities;
+use crate::adding::{Parities, add_parities, shares_of};
 use crate::groups::{group_of, index_of, parity_count, parity_slot, settled_kind};
 use crate::kinds::Phase;
 use crate::outs::outs;
@@ -20,6 +20,15 @@ use layout::plan::Cell;
 use layout::refusal::Refusal;
 use rack::rack::Rack;
 
+/// A word that was looked up.
+#[derive(Clone, Copy)]
+pub(crate) struct Found {
+    /// its symbol
+    symbol: u16,
+    /// the symbols of those parities of its settled group that were fetched to find it, by the numbers of the parities
+    parities: [Option<u16>; 4],
+}
+
 /// The symbol at a place; 0 where there is none.
 pub(crate) fn symbol_at<R: Rack>(rack: &R, module: u16, slot: u16, offset: u16) -> u16
     ensures { R.valid rack.now → result ≡ (R.meaning rack.now).symbol «module» slot offset }
@@ -28,8 +37,8 @@ pub(crate) fn symbol_at<R: Rack>(rack: &R, module: u16, slot: u16, offset: u16) 
 }
 
 impl<F: Field, R: Rack> Pool<F, R> {
-    /// The symbol of a word whose module is out, from the first pieces that are left of its settled group.
-    fn rebuild_word(&self, chunk: u16, cell: Cell, offset: u16) -> Result<u16, Refusal>
+    /// Looks up a word whose module is out, from the first pieces that are left of its settled group.
+    fn rebuild_word(&self, chunk: u16, cell: Cell, offset: u16) -> Result<Found, Refusal>
         requires { CellOf self.now.plan.d self.now.plan.d2 chunk (Some cell) }
         ensures { Held F.arithmetic R.valid R.meaning self.now → (R.meaning self.now.rack).fitted cell.column ≡ false → Looked (F.arithmetic self.now.field) (scheme_of self.now.plan) (standing F.arithmetic R.valid R.meaning self.now) chunk offset result }
     {
@@ -37,17 +46,23 @@ impl<F: Field, R: Rack> Pool<F, R> {
         let index = group_of(&self.plan, kind, chunk, cell);
         let out = outs(&self.rack, &self.plan);
         let repair = prepare(&self.plan, &self.field, kind, index, out)?;
-        let symbols = repair.chunks_at(&self.field, &self.rack, offset);
-        Ok(symbols[index_of(&self.plan, kind, chunk, cell)])
+        let pieces = repair.pieces_at(&self.field, &self.rack, offset);
+        Ok(Found {
+            symbol: pieces.chunks[index_of(&self.plan, kind, chunk, cell)],
+            parities: pieces.parities,
+        })
     }
 
-    /// The symbol of a word: that in the rack, or where its module is out, that which is rebuilt.
-    fn find_word(&self, chunk: u16, cell: Cell, offset: u16) -> Result<u16, Refusal>
+    /// Looks up a word: the symbol in the rack, or where its module is out, that which is rebuilt.
+    fn find_word(&self, chunk: u16, cell: Cell, offset: u16) -> Result<Found, Refusal>
         requires { CellOf self.now.plan.d self.now.plan.d2 chunk (Some cell) }
         ensures { Held F.arithmetic R.valid R.meaning self.now → Looked (F.arithmetic self.now.field) (scheme_of self.now.plan) (standing F.arithmetic R.valid R.meaning self.now) chunk offset result }
     {
         if self.rack.ask(cell.column) {
-            return Ok(symbol_at(&self.rack, cell.column, cell.row, offset));
+            return Ok(Found {
+                symbol: symbol_at(&self.rack, cell.column, cell.row, offset),
+                parities: [None; 4],
+            });
         }
         self.rebuild_word(chunk, cell, offset)
     }
@@ -63,12 +78,13 @@ impl<F: Field, R: Rack> Pool<F, R> {
         if offset >= self.plan.len {
             return Err(Refusal::NoWord(2));
         }
-        self.find_word(chunk, cell, offset)
+        let found = self.find_word(chunk, cell, offset)?;
+        Ok(found.symbol)
     }
 
     /// Whether the changeover is under way and the chunk's stripe is carried.
     fn is_staged(&self, chunk: u16) -> bool
-        ensures { result ≡ stages self.now.phase self.now.carried (scheme_of self.now.plan) chunk }
+        ensures { result ≡ is_staged self.now.phase self.now.carried (scheme_of self.now.plan) chunk }
     {
         match self.phase {
             Phase::UnderWay => chunk / self.plan.d < self.carried,
@@ -77,42 +93,32 @@ impl<F: Field, R: Rack> Pool<F, R> {
     }
 
     /// Stores the symbol of a word over its old one: in the rack, where its module is fitted, and in the settled parities, and
-    /// the staged ones if there are any, of its chunk.
-    fn store_word(&mut self, chunk: u16, cell: Cell, offset: u16, symbol: u16, old: u16)
+    /// the staged ones if there are any, of its chunk. Each parity is fetched once.
+    fn store_word(&mut self, chunk: u16, cell: Cell, offset: u16, symbol: u16, old: Found)
         requires { CellOf self.old.plan.d self.old.plan.d2 chunk (Some cell) }
-        ensures { Held F.arithmetic R.valid R.meaning self.old → offset < self.old.plan.len → symbol < (F.arithmetic self.old.field).order → Wrote F.arithmetic R.valid R.meaning self.old self.new chunk offset symbol old }
+        ensures { Held F.arithmetic R.valid R.meaning self.old → offset < self.old.plan.len → symbol < (F.arithmetic self.old.field).order → Looked (F.arithmetic self.old.field) (scheme_of self.old.plan) (standing F.arithmetic R.valid R.meaning self.old) chunk offset (Ok old) → Wrote F.arithmetic R.valid R.meaning self.old self.new chunk offset symbol old.symbol }
     {
         let kind = settled_kind(self.phase);
         let index = group_of(&self.plan, kind, chunk, cell);
-        let slot = parity_slot(&self.plan, kind, index);
-        let count = parity_count(&self.plan, kind);
-        let first = self.plan.d2;
-        let x = cell.x as u8;
-        let change = self.field.sub(symbol, old);
+        let fetched = old.parities;
+        let settled = Parities {
+            first: self.plan.d2,
+            slot: parity_slot(&self.plan, kind, index),
+            count: parity_count(&self.plan, kind),
+            fetched,
+        };
+        let change = self.field.sub(symbol, old.symbol);
+        let shares = shares_of(&self.field, cell.x as u8, change);
         let _ = self.rack.put(cell.column, cell.row, offset, symbol);
-        add_parities(
-            &mut self.rack,
-            &self.field,
-            first,
-            slot,
-            count,
-            x,
-            offset,
-            change,
-        );
+        add_parities(&mut self.rack, &self.field, settled, offset, shares);
         if self.is_staged(chunk) {
-            let row = self.plan.stripes() + cell.row;
-            let staged = self.plan.r2;
-            add_parities(
-                &mut self.rack,
-                &self.field,
-                first,
-                row,
-                staged,
-                x,
-                offset,
-                change,
-            );
+            let staged = Parities {
+                first: self.plan.d2,
+                slot: self.plan.stripes() + cell.row,
+                count: self.plan.r2,
+                fetched: [None; 4],
+            };
+            add_parities(&mut self.rack, &self.field, staged, offset, shares);
         }
     }
 

@@ -1,8 +1,7 @@
-use Rattle.std.proofs.Common.{◌≡◌, sym, subst, arith}
+use Rattle.std.proofs.Common.{◌≡◌, arith}
 use Rattle.layout.proofs.OfPlan as layout
 use Rattle.coding.specs.Schemes.{scheme_of}
-use Rattle.pool.specs.Growth.{Whole}
-use Rattle.pool.proofs.Growing.{carried_none, carried_more, carried_all}
+use Rattle.pool.proofs.Growing.{carried_below, room_kept, carried_none, carried_more, carried_all}
 use Rattle.pool.proofs.Loading.{inside}
 use Rattle.pool.proofs.carry.carry_all.Goals as goal
 
@@ -22,11 +21,13 @@ loop-offset-preserved g c =
     let L = g.met.F.Field.lawful c.args.field.now in
     let x = c.args.load.now in
     let p = scheme_of x.plan in
+    let w = g.R.Rack.meaning c.args.rack.now in
+    let w₁ = g.R.Rack.meaning c.loop-offset.rack in
     let inv = c.loop-offset.invariant v room in
-    let step = c.carry_at.ensures inv.0 (subst (Whole A p) (sym inv.1) room) c.loop-offset-test.true in (
+    let step = c.carry_at.ensures inv.0 (room_kept A p w w₁ (carried_below A p x.group.index w c.loop-offset.offset) inv.1 room) c.loop-offset-test.true in (
       step.0,
       carried_more A L p (layout.promises x.plan).in_columns x.group.index c.requires.loaded.inside (inside A x c.requires.loaded)
-          (g.R.Rack.meaning c.args.rack.now) (g.R.Rack.meaning c.loop-offset.rack) _ c.loop-offset.offset inv.1 step.1,
+          w w₁ (g.R.Rack.meaning c.carry_at.new.rack) c.loop-offset.offset inv.1 step.1,
     )
 
 pub returns : goal.returns

@@ -1,7 +1,8 @@
 use Rattle.std.proofs.Common.{◌≡◌}
 use Rattle.coding.specs.Schemes.{Scheme, scheme_of}
 use Rattle.pool.specs.Effects.{changed}
-use Rattle.pool.specs.Growth.{Whole, carried_below}
+use Rattle.pool.specs.Growth.{Whole}
+use Rattle.pool.proofs.Growing.{carried_below}
 use Rattle.pool.proofs.carry.carry_all.Given as goal
 
 abbrev pub invariant-loop-offset : goal.invariant-loop-offset

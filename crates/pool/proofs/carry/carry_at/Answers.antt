@@ -1,10 +1,62 @@
-use Rattle.std.proofs.Common.{sym, subst}
+use Rattle.std.proofs.Common.{◌≡◌, ◌+◌, ◌<◌, [], get_or, sym, ◌∙◌, arith}
 use Rattle.layout.proofs.OfPlan as layout
 use Rattle.coding.specs.Schemes.{scheme_of}
-use Rattle.pool.specs.Growth.{Whole}
-use Rattle.pool.proofs.Growing.{stripe_gains}
-use Rattle.pool.proofs.Loading.{inside}
+use Rattle.pool.specs.Growth.{Whole, grown_symbol, grown, stripe_gain}
+use Rattle.pool.specs.Effects.{chunks_at}
+use Rattle.pool.proofs.Gains.{gain_below, untouched}
+use Rattle.pool.proofs.Growing.{room_kept, room_below, same_rack, rows_below, rows_none, rows_more, rows_skip, rows_all}
 use Rattle.pool.proofs.carry.carry_at.Goals as goal
+use Rattle.pool.proofs.carry.carry_at.Goals.{then-load-row, else-load-row}
+
+pub loop-row-init : goal.loop-row-init
+loop-row-init g c =
+    λ v room lo.
+    let A = g.F.Field.arithmetic c.args.field.now in
+    let L = g.met.F.Field.lawful c.args.field.now in
+    let x = c.args.load.now in
+    let p = scheme_of x.plan in
+    let w = g.R.Rack.meaning c.args.rack.now in
+    (v, rows_none A L p c.args.offset w (stripe_gain A p x.group.index w c.args.offset) (room_below A p w room (g.R.Rack.bounded c.args.rack.now v)))
+
+pub bounds-load-row : goal.bounds-load-row
+bounds-load-row g c = omega (arith, c.loop-row-test.true, c.requires.loaded.rows_is, layout.rows_le c.args.load.now.plan)
+
+pub bounds-gains-row : goal.bounds-gains-row
+bounds-gains-row g c = omega (arith, c.loop-row-test.true, c.requires.loaded.rows_is, layout.rows_le c.args.load.now.plan)
+
+pub loop-row-preserved : goal.loop-row-preserved
+loop-row-preserved g c =
+    λ v room lo.
+    let A = g.F.Field.arithmetic c.args.field.now in
+    let L = g.met.F.Field.lawful c.args.field.now in
+    let x = c.args.load.now in
+    let p = scheme_of x.plan in
+    let i = x.group.index in
+    let w = g.R.Rack.meaning c.args.rack.now in
+    let f = stripe_gain A p i w c.args.offset in
+    let n = c.loop-row.row in
+    let inv = c.loop-row.invariant v room lo in
+    let within : n < p.rows = omega (arith, c.loop-row-test.true, c.requires.loaded.rows_is) in
+    let w₁ = g.R.Rack.meaning c.loop-row.rack in
+    let next = grown A p w c.args.offset (rows_below f (n + 1)) in
+    elim c.if-load-row.branch [
+      | then-load-row t ↦
+          let room₁ : Whole A p w₁ = room_kept A p w w₁ (grown_symbol A p w c.args.offset (rows_below f n)) inv.1 room in
+          let put = t.add_to_row.ensures inv.0 room₁ lo in
+          same_rack g.R.Rack.valid g.R.Rack.meaning c.if-load-row.rack t.add_to_row.new.rack next t.rack-is (
+            put.0,
+            rows_more A L p c.args.offset w f (λ k h. gain_below A L p i k h (w.symbol (p.d' + k) i c.args.offset) (chunks_at p w c.args.offset)) n
+                (get_or c.gains_at-gains.result n []) w₁ (g.R.Rack.meaning t.add_to_row.new.rack)
+                (λ k lk. c.gains_at-gains.ensures v room.order_is k n lk within) inv.1 put.1,
+          )
+      | else-load-row t ↦
+          same_rack g.R.Rack.valid g.R.Rack.meaning c.if-load-row.rack c.loop-row.rack next t.rack-is (
+            inv.0,
+            rows_skip A L p c.args.offset w f n w₁
+                (λ k lk. untouched A L p i k n (w.symbol (p.d' + k) i c.args.offset) (chunks_at p w c.args.offset) (sym (c.requires.loaded.touched_are n within) ∙ t.if-load-row.false))
+                inv.1,
+          )
+    ]
 
 pub returns : goal.returns
 returns g c =
@@ -14,9 +66,8 @@ returns g c =
     let x = c.args.load.now in
     let p = scheme_of x.plan in
     let w = g.R.Rack.meaning c.args.rack.now in
-    let first = c.carry_parities.ensures v room lo in
-    let second = c.carry_chunks.ensures first.0 (subst (Whole A p) (sym first.1) room) lo in (
-      second.0,
-      stripe_gains A L p (layout.promises x.plan).in_columns x.group.index c.requires.loaded.inside (inside A x c.requires.loaded)
-          c.args.offset w (g.R.Rack.meaning c.carry_parities.new.rack) _ first.1 second.1,
+    let inv = c.loop-row.invariant v room lo in
+    let all : c.loop-row.row ≡ p.rows = omega (arith, c.loop-row-test.false, c.loop-row.auto.row-end, c.requires.loaded.rows_is) in (
+      inv.0,
+      rows_all A L p c.args.offset w (stripe_gain A p x.group.index w c.args.offset) c.loop-row.row (g.R.Rack.meaning c.loop-row.rack) all inv.1,
     )

@@ -5,4 +5,4 @@ use Rattle.pool.specs.Book.{holds_piece, beyond, lowest}
 use Rattle.pool.proofs.refit.first_beyond.Given as goal
 
 abbrev pub invariant-loop-i : goal.invariant-loop-i
-invariant-loop-i g l = lowest (λ i. holds_piece (scheme_of l.plan) l.kind l.module i && beyond (scheme_of l.plan) l.kind (flags l.out) i) l.i ≡ None
+invariant-loop-i l = lowest (λ i. holds_piece (scheme_of l.plan) l.kind l.module i && beyond (scheme_of l.plan) l.kind (flags l.out) i) l.i ≡ None

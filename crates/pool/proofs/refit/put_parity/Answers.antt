@@ -1,4 +1,5 @@
-use Rattle.std.proofs.Common.{refl}
+use Rattle.std.proofs.Common.{ℕ, List, Option, refl, subst}
+use Rattle.pool.specs.Restored.{WeightsOn}
 use Rattle.pool.proofs.Putting.{parity_put, no_parity}
 use Rattle.pool.proofs.refit.put_parity.Goals as goal
 
@@ -6,11 +7,11 @@ pub returns-in-Some : goal.returns-in-Some
 returns-in-Some g c =
     λ h.
     let put = c.put.ensures h in
-    let on = c.in-Some.ensures in (
+    let on = subst (λ (q : Option (List ℕ)). WeightsOn (g.F.Field.arithmetic c.args.field.now) c.args.group.now c.args.module q) c.in-Some.is c.requires in (
       put.1,
       λ p t i v sound li grouped space order are.
           parity_put (g.F.Field.arithmetic c.args.field.now) p sound t i li c.args.module c.args.offset (g.R.Rack.meaning c.args.rack.now) space
-          c.args.group.now grouped c.args.chunks v order are _ c.in-Some.k c.parity_of.result on.1 on.2 c.parity_of.ensures.is c.parity_of.ensures.below put.0.after,
+          c.args.group.now grouped c.args.chunks v order are _ on.0 c.parity_of.result on.2 on.3 (c.parity_of.ensures.is c.args.group.now on.0 on.4) c.parity_of.ensures.below put.0.after,
     )
 
 pub returns-in_default : goal.returns-in_default
@@ -19,5 +20,5 @@ returns-in_default g c =
       h,
       λ p t i v sound li grouped space order are.
           no_parity (g.F.Field.arithmetic c.args.field.now) p sound t i li c.args.module c.args.offset (g.R.Rack.meaning c.args.rack.now) space
-          c.args.group.now grouped c.args.chunks v order are _ c.in_default.ensures refl,
+          c.args.group.now grouped c.args.chunks v order are _ (subst (λ (q : Option (List ℕ)). WeightsOn (g.F.Field.arithmetic c.args.field.now) c.args.group.now c.args.module q) c.in_default.is c.requires) refl,
     )

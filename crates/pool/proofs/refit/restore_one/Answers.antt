@@ -1,7 +1,7 @@
 use Rattle.std.proofs.Common.{sym, ◌∙◌, arith}
 use Rattle.std.proofs.lemmas.Bool.{both_ways, and_from, lt-ltb}
 use Rattle.coding.specs.Groups.{parities}
-use Rattle.coding.specs.Words.{misses}
+use Rattle.coding.specs.Words.{missing_pieces}
 use Rattle.coding.specs.Schemes.{scheme_of}
 use Rattle.coding.specs.Steps.{flags}
 use Rattle.pool.specs.Book.{holds_piece, beyond}
@@ -38,7 +38,7 @@ returns-in_default g c =
           absurd
           (both_ways _ fine
           (and_from (holds_piece p t m i) (beyond p t out i) (sym (c.has_piece.ensures li) ∙ c.if-has_piece.true)
-          (lt-ltb (parities p t) (misses p t i out) (c.in_default.ensures.prepared.0 li)))),
+          (lt-ltb (parities p t) (missing_pieces p t i out) (c.in_default.ensures.prepared.0 li)))),
     )
 
 pub returns-else-has_piece : goal.returns-else-has_piece

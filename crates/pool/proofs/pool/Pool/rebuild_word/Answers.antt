@@ -1,8 +1,9 @@
-use Rattle.std.proofs.Common.{◌≡◌, ℕ, false, get_or, Result, sym, ap, ◌∙◌, subst}
+use Rattle.std.proofs.Common.{◌≡◌, false, get_or, Result, sym, ap, ◌∙◌, subst}
 use Rattle.std.proofs.lemmas.Result.{err_from_is_err_and}
 use Rattle.layout.specs.declared.refusal.Refusal.{Refusal}
 use Rattle.coding.specs.Schemes.{scheme_of}
 use Rattle.coding.proofs.OfPlan.{sound}
+use Rattle.pool.specs.declared.words.Found.{Found}
 use Rattle.pool.specs.Pools.{standing}
 use Rattle.pool.specs.WordSteps.{Looked}
 use Rattle.pool.proofs.WordGroups.{column_is}
@@ -19,7 +20,7 @@ returns-in_err-repair g c =
     let f : s.held.fitted ((scheme_of x.plan).column j) ≡ false = ap s.held.fitted (sym (column_is x.plan j c.args.cell c.requires)) ∙ out in
     let told = c.in_err-repair.ensures.prepared in
     let p = err_from_is_err_and c.from_residual.result c.from_residual.ensures.1 in
-    subst (λ (r : Result ℕ Refusal). Looked A (scheme_of x.plan) s j c.args.offset r) (sym p.1)
+    subst (λ (r : Result Found Refusal). Looked A (scheme_of x.plan) s j c.args.offset r) (sym p.1)
     (too_much A (scheme_of x.plan) (sound x.plan A held.order_is) s j c.args.offset c.outs-out.result (c.outs-out.ensures held.rack_is_valid) f
     c.settled_kind-kind.result c.group_of-index.result p.0 c.in_err-repair.field-0.0 c.settled_kind-kind.ensures c.group_of-index.ensures.is
     (told.0 c.group_of-index.ensures.inside) told.1 p.2)
@@ -35,7 +36,10 @@ returns g c =
     let told = c.in_ok-repair.ensures.prepared in
     let t = c.settled_kind-kind.result in
     let i = c.group_of-index.result in
-    let made = c.chunks_at-symbols.ensures held.rack_is_valid held.kept.order_is (scheme_of x.plan) t i _ (told.2 held.order_is) in
+    let ready = told.2 held.order_is in
+    let a = c.pieces_at-pieces.result.chunks in
     rebuilt A (scheme_of x.plan) (sound x.plan A held.order_is) s j c.args.offset c.outs-out.result (c.outs-out.ensures held.rack_is_valid) f
-    t i c.chunks_at-symbols.result (get_or c.chunks_at-symbols.result c.index_of.result 0) c.settled_kind-kind.ensures c.group_of-index.ensures.is
-    told.1 made (ap (λ n. get_or c.chunks_at-symbols.result n 0) c.index_of.ensures.is)
+    t i a _ c.settled_kind-kind.ensures c.group_of-index.ensures.is told.1
+    (c.pieces_at-pieces.ensures.chunks held.rack_is_valid held.kept.order_is (scheme_of x.plan) t i _ ready)
+    (ap (λ n. get_or a n 0) c.index_of.ensures.is)
+    (c.pieces_at-pieces.ensures.parities held.rack_is_valid (scheme_of x.plan) t i _ ready)

@@ -1,26 +1,26 @@
-use Rattle.std.proofs.Common.{arith}
+use Rattle.std.proofs.Common.{◌+◌, arith}
 use Rattle.layout.proofs.OfPlan as layout
 use Rattle.coding.specs.Schemes.{scheme_of}
 use Rattle.coding.proofs.OfPlan.{sound}
 use Rattle.pool.specs.Pools.{standing}
 use Rattle.pool.proofs.WordGroups.{row_is, x_is}
 use Rattle.pool.proofs.WordCalled.{wrote}
-use Rattle.pool.proofs.WordWritten.{meant_of, settled_spans, staged_spans, written_settled, written_staged}
+use Rattle.pool.proofs.WordWritten.{meant_of, settled_spans, settled_fetched, none_fetched, staged_spans, written_settled, written_staged}
 use Rattle.pool.proofs.pool.Pool.store_word.Goals as goal
 
-pub overflow_cast-x : goal.overflow_cast-x
-overflow_cast-x g c =
+pub overflow_cast-cell : goal.overflow_cast-cell
+overflow_cast-cell g c =
     let P = c.args.self.now.plan in
     omega (arith, x_is P c.args.chunk c.args.cell c.requires, layout.x_lt P c.args.chunk c.requires.0)
 
-pub overflow_add-row : goal.overflow_add-row
-overflow_add-row g c =
+pub overflow_add-staged : goal.overflow_add-staged
+overflow_add-staged g c =
     let P = c.args.self.now.plan in
     omega (arith, row_is P c.args.chunk c.args.cell c.requires, (layout.promises P).in_rows c.args.chunk c.requires.0, layout.rows_le P, layout.stripes_le P, c.stripes.ensures)
 
 pub returns-then-is_staged : goal.returns-then-is_staged
 returns-then-is_staged g c =
-    λ held lo lv.
+    λ held lo lv looked.
     let x = c.args.self.now in
     let P = x.plan in
     let A = g.F.Field.arithmetic x.field in
@@ -30,27 +30,30 @@ returns-then-is_staged g c =
     let j = c.args.chunk in
     let o = c.args.offset in
     let v = c.args.symbol in
-    let old = c.args.old in
+    let old = c.args.old.symbol in
     let cell = c.args.cell in
-    let slot = c.parity_slot-slot.result in
-    let n = c.parity_count-count.result in
+    let slot = c.parity_slot.result in
+    let n = c.parity_count.result in
     let change = c.sub-change.result in
-    let meant = meant_of P A s j v old cell c.requires c.settled_kind-kind.result c.group_of-index.result slot n change c.settled_kind-kind.ensures c.group_of-index.ensures.is
-    c.parity_slot-slot.ensures c.parity_count-count.ensures c.sub-change.ensures.is in
+    let shares = c.shares_of-shares.result in
+    let meant = meant_of P A s j v old cell c.requires c.settled_kind-kind.result c.group_of-index.result slot n change shares c.settled_kind-kind.ensures c.group_of-index.ensures.is
+    c.parity_slot.ensures c.parity_count.ensures c.sub-change.ensures.is c.shares_of-shares.ensures in
     let put = c.put.ensures held.rack_is_valid in
     let w = g.R.Rack.meaning c.put.new.self in
     let added = c.add_parities.ensures put.1
-    (settled_spans A p all s held.kept j o v old c.requires.0 lo lv cell.column cell.row cell.x slot n change meant w put.0.after) in
+    (settled_spans A p all s held.kept j o v old c.requires.0 lo lv cell.column cell.row slot n shares meant w put.0.after)
+    (settled_fetched A p all s held.kept j o v old c.requires.0 lo lv cell.column cell.row slot n shares meant w put.0.after c.args.old.parities looked.2) in
     let w' = g.R.Rack.meaning c.add_parities.new.rack in
     let more = c.add_parities-then-is_staged.ensures added.0
-    (staged_spans A p all s held.kept j o v old c.requires.0 lo lv cell.column cell.row cell.x slot n change meant w put.0.after w' added.1 c.stripes.result c.stripes.ensures) in
+    (staged_spans A p all s held.kept j o v old c.requires.0 lo lv cell.column cell.row slot n shares meant w put.0.after w' added.1 c.stripes.result c.stripes.ensures)
+    (λ k l. none_fetched (g.R.Rack.meaning c.add_parities.new.rack) (p.d' + k) (c.stripes.result + cell.row) o k) in
     wrote g.F.Field.arithmetic g.R.Rack.valid g.R.Rack.meaning x c.add_parities-then-is_staged.new.rack j o v old more.0
-    (written_staged A p all s held.kept j o v old c.requires.0 lo lv cell.column cell.row cell.x slot n change meant w put.0.after w' added.1
+    (written_staged A p all s held.kept j o v old c.requires.0 lo lv cell.column cell.row slot n shares meant w put.0.after w' added.1
     (g.R.Rack.meaning c.add_parities-then-is_staged.new.rack) c.stripes.result c.stripes.ensures more.1 c.if-is_staged.ensures)
 
 pub returns-else-is_staged : goal.returns-else-is_staged
 returns-else-is_staged g c =
-    λ held lo lv.
+    λ held lo lv looked.
     let x = c.args.self.now in
     let P = x.plan in
     let A = g.F.Field.arithmetic x.field in
@@ -60,17 +63,19 @@ returns-else-is_staged g c =
     let j = c.args.chunk in
     let o = c.args.offset in
     let v = c.args.symbol in
-    let old = c.args.old in
+    let old = c.args.old.symbol in
     let cell = c.args.cell in
-    let slot = c.parity_slot-slot.result in
-    let n = c.parity_count-count.result in
+    let slot = c.parity_slot.result in
+    let n = c.parity_count.result in
     let change = c.sub-change.result in
-    let meant = meant_of P A s j v old cell c.requires c.settled_kind-kind.result c.group_of-index.result slot n change c.settled_kind-kind.ensures c.group_of-index.ensures.is
-    c.parity_slot-slot.ensures c.parity_count-count.ensures c.sub-change.ensures.is in
+    let shares = c.shares_of-shares.result in
+    let meant = meant_of P A s j v old cell c.requires c.settled_kind-kind.result c.group_of-index.result slot n change shares c.settled_kind-kind.ensures c.group_of-index.ensures.is
+    c.parity_slot.ensures c.parity_count.ensures c.sub-change.ensures.is c.shares_of-shares.ensures in
     let put = c.put.ensures held.rack_is_valid in
     let w = g.R.Rack.meaning c.put.new.self in
     let added = c.add_parities.ensures put.1
-    (settled_spans A p all s held.kept j o v old c.requires.0 lo lv cell.column cell.row cell.x slot n change meant w put.0.after) in
+    (settled_spans A p all s held.kept j o v old c.requires.0 lo lv cell.column cell.row slot n shares meant w put.0.after)
+    (settled_fetched A p all s held.kept j o v old c.requires.0 lo lv cell.column cell.row slot n shares meant w put.0.after c.args.old.parities looked.2) in
     wrote g.F.Field.arithmetic g.R.Rack.valid g.R.Rack.meaning x c.add_parities.new.rack j o v old added.0
-    (written_settled A p all s held.kept j o v old c.requires.0 lo lv cell.column cell.row cell.x slot n change meant w put.0.after
+    (written_settled A p all s held.kept j o v old c.requires.0 lo lv cell.column cell.row slot n shares meant w put.0.after
     (g.R.Rack.meaning c.add_parities.new.rack) added.1 c.if-is_staged.ensures)

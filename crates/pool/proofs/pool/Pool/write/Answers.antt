@@ -11,4 +11,4 @@ returns g c =
     let lo = c.if-offset-self.false in
     let lv : c.args.symbol < (g.F.Field.arithmetic x.field).order = omega (arith, c.if-symbol-order.false, c.order.ensures) in
     write_called g.F.Field.arithmetic g.R.Rack.valid g.R.Rack.meaning x c.store_word.new.self (g.met.F.Field.lawful x.field) held
-    c.args.chunk c.args.offset c.args.symbol c.in_ok-old.old at.0 lo lv looked (c.store_word.ensures held lo lv)
+    c.args.chunk c.args.offset c.args.symbol c.in_ok-old.old at.0 lo lv looked (c.store_word.ensures held lo lv looked)

@@ -1,0 +1,12 @@
+use Rattle.std.proofs.Common.{refl, arith}
+use Rattle.coding.proofs.Loops.{filled, begun}
+use Rattle.pool.proofs.carry.sums.Goals as goal
+
+pub loop-k-init : goal.loop-k-init
+loop-k-init g c = begun 4 _ _ 0 0 refl refl
+
+pub loop-k-preserved : goal.loop-k-preserved
+loop-k-preserved g c = filled 4 _ _ 0 c.loop-k.k c.loop-k.all _ (omega arith) c.loop-k.invariant c.add.ensures.is
+
+pub returns : goal.returns
+returns g c = λ k h. c.loop-k.invariant.done k (omega arith)
