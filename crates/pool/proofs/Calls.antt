@@ -1,5 +1,5 @@
 -- What a call of a pool has to show. Assumes nothing.
-use Rattle.std.proofs.Common.{◌≡◌, ℕ, ◌+◌, ◌<◌, true, false, not, ltb, leb, Some, None, sym, refl, ap, ◌∙◌, subst, arith}
+use Rattle.std.proofs.Common.{◌≡◌, ℕ, ◌+◌, ◌<◌, true, false, not, ltb, leb, Some, None, sym, refl, ap, ◌∙◌, subst, arith, Ok, Err}
 use Rattle.std.proofs.lemmas.Bool.{not-false, and_parts, lt-leb, cond-true, cond-false}
 use Rattle.layout.specs.declared.plan.Plan.{Plan}
 use Rattle.layout.specs.Counts.{slots_of}
@@ -11,8 +11,8 @@ use Rattle.coding.specs.Schemes.{Scheme, scheme_of}
 use Rattle.coding.proofs.OfPlan as plan
 use Rattle.pool.specs.declared.kinds.Call.{Call}
 use Rattle.pool.specs.declared.kinds.Call.TheVariants.{Begin, Pull}
-use Rattle.pool.specs.declared.kinds.Answer.{Answer}
-use Rattle.pool.specs.declared.kinds.Answer.TheVariants.{Done, Refused}
+use Rattle.pool.specs.Replies.{Answer}
+use Rattle.pool.specs.declared.kinds.Reply.TheVariants.{Done}
 use Rattle.pool.specs.declared.kinds.Phase.{Phase}
 use Rattle.pool.specs.declared.kinds.Phase.TheVariants.{UnderWay}
 use Rattle.pool.specs.declared.pool.Pool.{Pool}
@@ -51,10 +51,10 @@ module _ {F R : Type 0} (arithmetic : F → Arithmetic) (lawful : (f : F) → La
 
     -- a call that is refused, and alters nothing
     pub called_refused : (c : Call) (e : Refusal) → refusal_of arithmetic valid meaning x c ≡ Some e → standing arithmetic valid meaning y ≡ standing arithmetic valid meaning x →
-        Called arithmetic valid meaning x y c (Refused e)
+        Called arithmetic valid meaning x y c (Err e)
     called_refused c e r same =
-        called c (Refused e)
-        (does_refused (arithmetic x.field) (scheme_of x.plan) (standing arithmetic valid meaning x) c (Refused e) (standing arithmetic valid meaning y) e r refl same)
+        called c (Err e)
+        (does_refused (arithmetic x.field) (scheme_of x.plan) (standing arithmetic valid meaning x) c (Err e) (standing arithmetic valid meaning y) e r refl same)
 
     -- a call that is not refused, and has its effect
     pub called_granted : (c : Call) (a : Answer) → refusal_of arithmetic valid meaning x c ≡ None →
@@ -85,7 +85,7 @@ module _ {F R : Type 0} (arithmetic : F → Arithmetic) (lawful : (f : F) → La
       (valid x.rack → Blocked x.plan.d2 (x.plan.d2 + x.plan.r2) a b x.plan.len (meaning x.rack) →
       (meaning y ≡ zeroed x.plan.d2 (x.plan.d2 + x.plan.r2) a b x.plan.len (meaning x.rack)) × valid y) →
       (valid x.rack → None ≡ refusal_of arithmetic valid meaning x Begin) → Held arithmetic valid meaning x →
-      Called arithmetic valid meaning x (record { plan = x.plan; field = x.field; rack = y; phase = UnderWay; carried = 0 }) Begin Done
+      Called arithmetic valid meaning x (record { plan = x.plan; field = x.field; rack = y; phase = UnderWay; carried = 0 }) Begin (Ok Done)
   begun x y a b a-is b-is clears passed held =
       let none : refusal_of arithmetic valid meaning x Begin ≡ None = sym (passed held.rack_is_valid) in
       let low : ℕ = x.plan.d2 in
@@ -98,13 +98,13 @@ module _ {F R : Type 0} (arithmetic : F → Arithmetic) (lawful : (f : F) → La
       subst (λ n. Blocked low high n b len w) (sym a-is) (subst (λ n. Blocked low high stripes n len w) (sym b-is) (staged_block x held none)) in
       let done = clears held.rack_is_valid block in
       let is : meaning y ≡ zeroed low high stripes slots len w = done.0 ∙ ap (λ n. zeroed low high n b len w) a-is ∙ ap (λ n. zeroed low high stripes n len w) b-is in
-      called_granted x (record { plan = x.plan; field = x.field; rack = y; phase = UnderWay; carried = 0 }) held done.1 refl refl Begin Done none
+      called_granted x (record { plan = x.plan; field = x.field; rack = y; phase = UnderWay; carried = 0 }) held done.1 refl refl Begin (Ok Done) none
       (refl, ap (λ (v : Meaning). record { phase = UnderWay; carried = 0; held = v }) is)
 
   -- a pull: the module is out
   pub pulled : (x : Pool F R) (y : R) (ph : Phase) (m : ℕ) → m < modules (scheme_of x.plan) → ph ≡ pulled_phase x.phase →
       (valid x.rack → Pulls (meaning x.rack) (meaning y) m true × valid y) → Held arithmetic valid meaning x →
-      Called arithmetic valid meaning x (record { plan = x.plan; field = x.field; rack = y; phase = ph; carried = x.carried }) (Pull m) Done
+      Called arithmetic valid meaning x (record { plan = x.plan; field = x.field; rack = y; phase = ph; carried = x.carried }) (Pull m) (Ok Done)
   pulled x y ph m lm phase_is pulls-it held =
       let w : Meaning = meaning x.rack in
       let done = pulls-it held.rack_is_valid in
@@ -113,5 +113,5 @@ module _ {F R : Type 0} (arithmetic : F → Arithmetic) (lawful : (f : F) → La
       let is : meaning y ≡ flagged w m false = done.0.after ∙ cond-true (pulls w m) (flagged w m false) w goes in
       let none : refusal_of arithmetic valid meaning x (Pull m) ≡ None =
       cond-false (leb (modules (scheme_of x.plan)) m) _ _ (lt-leb (modules (scheme_of x.plan)) m lm) ∙ cond-false (not (w.fitted m)) _ _ (ap not fitted) in
-      called_granted x (record { plan = x.plan; field = x.field; rack = y; phase = ph; carried = x.carried }) held done.1 refl refl (Pull m) Done none
+      called_granted x (record { plan = x.plan; field = x.field; rack = y; phase = ph; carried = x.carried }) held done.1 refl refl (Pull m) (Ok Done) none
       (refl, λ i. record { phase = phase_is i; carried = x.carried; held = is i })

@@ -1,5 +1,5 @@
 -- What a call of a pool owes, from what it does. Assumes nothing.
-use Rattle.std.proofs.Common.{◌≡◌, ℕ, ◌+◌, ◌<◌, ◌≤◌, leb, Some, None, Option, sym, refl, ap, ◌∙◌, subst, add-one}
+use Rattle.std.proofs.Common.{◌≡◌, ℕ, ◌+◌, ◌<◌, ◌≤◌, leb, Some, None, Option, sym, refl, ap, ◌∙◌, subst, add-one, Ok, Err}
 use Rattle.std.proofs.lemmas.Bool.{lt-leb, le-leb, cond-true, cond-false}
 use Rattle.field.specs.Arithmetic.{Arithmetic, Lawful}
 use Rattle.layout.specs.declared.plan.Plan.{Plan}
@@ -11,8 +11,8 @@ use Rattle.pool.specs.declared.kinds.Phase.{Phase}
 use Rattle.pool.specs.declared.kinds.Phase.TheVariants.{Before, UnderWay, Voided, After}
 use Rattle.pool.specs.declared.kinds.Call.{Call}
 use Rattle.pool.specs.declared.kinds.Call.TheVariants.{Carry}
-use Rattle.pool.specs.declared.kinds.Answer.{Answer}
-use Rattle.pool.specs.declared.kinds.Answer.TheVariants.{Carried, Refused}
+use Rattle.pool.specs.Replies.{Answer}
+use Rattle.pool.specs.declared.kinds.Reply.TheVariants.{Carried}
 use Rattle.pool.specs.declared.pool.Pool.{Pool}
 use Rattle.pool.specs.Book.{refusal, refuse_if, under_way_refusal, carried_data, carried_parities}
 use Rattle.layout.specs.declared.refusal.Refusal.TheVariants.{WrongCount}
@@ -59,10 +59,10 @@ module _ {F R : Type 0} (arithmetic : F → Arithmetic) (lawful : (f : F) → La
 
   -- a call that its checks refuse, and that leaves the pool as it is
   pub refuses : (c : Call) (e : Refusal) → refusal (scheme_of x.plan) (arithmetic x.field).order x.phase x.carried (out_of (standing arithmetic valid meaning x)) c ≡ Some e →
-      Called arithmetic valid meaning x x c (Refused e)
+      Called arithmetic valid meaning x x c (Err e)
   refuses c e is =
       let s : Standing = standing arithmetic valid meaning x in
-      called x c (Refused e) refl refl held.rack_is_valid (does_refused (arithmetic x.field) (scheme_of x.plan) s c (Refused e) s e is refl refl)
+      called x c (Err e) refl refl held.rack_is_valid (does_refused (arithmetic x.field) (scheme_of x.plan) s c (Err e) s e is refl refl)
 
   -- while the changeover is under way all modules are fitted
   pub whole : x.phase ≡ UnderWay → Whole (arithmetic x.field) (scheme_of x.plan) (meaning x.rack)
@@ -76,10 +76,10 @@ module _ {F R : Type 0} (arithmetic : F → Arithmetic) (lawful : (f : F) → La
       }
 
   -- the refusals of a carry
-  pub refuses_phase : (e : Refusal) → under_way_refusal x.phase None ≡ Some e → Called arithmetic valid meaning x x Carry (Refused e)
+  pub refuses_phase : (e : Refusal) → under_way_refusal x.phase None ≡ Some e → Called arithmetic valid meaning x x Carry (Err e)
   refuses_phase e is = refuses Carry e (first_refusal x.phase _ e is)
 
-  pub refuses_count : (e : Refusal) → e ≡ WrongCount x.carried → under_way_refusal x.phase None ≡ None → (scheme_of x.plan).stripes ≤ x.carried → Called arithmetic valid meaning x x Carry (Refused e)
+  pub refuses_count : (e : Refusal) → e ≡ WrongCount x.carried → under_way_refusal x.phase None ≡ None → (scheme_of x.plan).stripes ≤ x.carried → Called arithmetic valid meaning x x Carry (Err e)
   refuses_count e is under many =
       let n : ℕ = (scheme_of x.plan).stripes in
       refuses Carry e
@@ -91,7 +91,7 @@ module _ {F R : Type 0} (arithmetic : F → Arithmetic) (lawful : (f : F) → La
   pub carries : (rack : R) (m k : ℕ) → x.phase ≡ UnderWay → x.carried < (scheme_of x.plan).stripes → valid rack →
       meaning rack ≡ changed (meaning x.rack) (carried_symbol (arithmetic x.field) (scheme_of x.plan) x.carried (meaning x.rack)) →
       ◌≡◌ {A = ℕ × ℕ} (m, k) (carried_data (scheme_of x.plan) x.carried, carried_parities (scheme_of x.plan)) →
-      Called arithmetic valid meaning x (record { plan = x.plan; field = x.field; rack = rack; phase = x.phase; carried = x.carried + 1 }) Carry (Carried m k)
+      Called arithmetic valid meaning x (record { plan = x.plan; field = x.field; rack = rack; phase = x.phase; carried = x.carried + 1 }) Carry (Ok (Carried m k))
   carries rack m k way more ok is counts =
       let A : Arithmetic = arithmetic x.field in
       let p : Scheme = scheme_of x.plan in
@@ -100,9 +100,9 @@ module _ {F R : Type 0} (arithmetic : F → Arithmetic) (lawful : (f : F) → La
       let accepted : refusal p A.order s.phase s.carried (out_of s) Carry ≡ None =
       ap (λ (ph : Phase). under_way_refusal ph (refuse_if (leb p.stripes x.carried) (WrongCount x.carried) None)) way
       ∙ cond-false (leb p.stripes x.carried) (Some (WrongCount x.carried)) None (lt-leb p.stripes x.carried more) in
-      called y Carry (Carried m k) refl refl ok
-      (does_granted A p s Carry (Carried m k) (standing arithmetic valid meaning y) accepted (
-        ap (λ (c : ℕ × ℕ). Carried c.0 c.1) counts,
+      called y Carry (Ok (Carried m k)) refl refl ok
+      (does_granted A p s Carry (Ok (Carried m k)) (standing arithmetic valid meaning y) accepted (
+        ap (λ (c : ℕ × ℕ). Ok (Carried c.0 c.1)) counts,
         λ i. record { phase = x.phase; carried = add-one x.carried i; held = is i },
       ))
 
@@ -111,7 +111,7 @@ module _ {F R : Type 0} (arithmetic : F → Arithmetic) (lawful : (f : F) → La
       (valid x.rack → Whole (arithmetic x.field) (scheme_of load.plan) (meaning x.rack) → valid rack
       × (meaning rack ≡ changed (meaning x.rack) (carried_symbol (arithmetic x.field) (scheme_of load.plan) load.group.index (meaning x.rack)))) →
       counts ≡ (carried_data (scheme_of load.plan) load.group.index, carried_parities (scheme_of load.plan)) →
-      Called arithmetic valid meaning x (record { plan = x.plan; field = x.field; rack = rack; phase = x.phase; carried = x.carried + 1 }) Carry (Carried counts.0 counts.1)
+      Called arithmetic valid meaning x (record { plan = x.plan; field = x.field; rack = rack; phase = x.phase; carried = x.carried + 1 }) Carry (Ok (Carried counts.0 counts.1))
   carries_load load made rack counts under step is =
       let A : Arithmetic = arithmetic x.field in
       let w : Meaning = meaning x.rack in

@@ -1,5 +1,5 @@
 -- What always holds of a pool is kept by every call. Assumes nothing.
-use Rattle.std.proofs.Common.{◌≡◌, ℕ, suc, ◌+◌, ◌-◌, ◌<◌, ◌≤◌, Bool, true, false, cond, ◌&&◌, eqb, ltb, leb, ◌≢◌, ◌⊎◌, Some, None, Option, sym, refl, ap, ◌∙◌, subst, inl, inr, ⊎_elim, arith, MatchOption}
+use Rattle.std.proofs.Common.{◌≡◌, ℕ, suc, ◌+◌, ◌-◌, ◌<◌, ◌≤◌, Bool, true, false, cond, ◌&&◌, eqb, ltb, leb, ◌≢◌, ◌⊎◌, Some, None, Option, sym, refl, ap, ◌∙◌, subst, inl, inr, ⊎_elim, arith, MatchOption, Err}
 use mathlib.Core.Logic.{by_cases}
 use native.Mathlib.Decide.{ℕ_discrete}
 use Rattle.std.proofs.lemmas.Bool.{both_ways, and_parts, and_from, or_cases, lt-ltb, ltb-true, leb-true, eqb-true, ne_eqb, eq-eqb, cond-true, cond-false, cond_both, cases_lt, not-false}
@@ -15,8 +15,7 @@ use Rattle.pool.specs.declared.kinds.Phase.{Phase}
 use Rattle.pool.specs.declared.kinds.Phase.TheVariants.{Before, UnderWay, Voided, After}
 use Rattle.pool.specs.declared.kinds.Call.{Call}
 use Rattle.pool.specs.declared.kinds.Call.TheVariants.{Read, Write, Pull, Refit, Begin, Carry, Ready, Close, Drop}
-use Rattle.pool.specs.declared.kinds.Answer.{Answer}
-use Rattle.pool.specs.declared.kinds.Answer.TheVariants.{Refused}
+use Rattle.pool.specs.Replies.{Answer}
 use Rattle.pool.specs.Book.{settled, group_of, modules, refusal, pulled_phase, dropped_phase}
 use Rattle.pool.specs.Standing.{Standing, out_of, Kept}
 use Rattle.pool.specs.Effects.{changed, holding, is_staged, keeps_up, written_symbol, staged, carried_symbol, begun_symbol, Refitted, Effect, Does}
@@ -376,7 +375,7 @@ module _ (A : Arithmetic) (L : Lawful A) (p : Scheme) (sound : Sound A p) (s : S
       subst (Kept A p) (sym f.1) (moved (dropped_phase s.phase) s.carried s.held kept kept.few_carried (λ e. absurd (dropped_never s.phase e)))
 
   by_refusal : (c : Call) (a : Answer) (t : Standing) (r : Option Refusal) → refusal p A.order s.phase s.carried (out_of s) c ≡ r →
-      MatchOption r (Effect A p s c a t) (λ e. (a ≡ Refused e) × (t ≡ s)) → Kept A p t
+      MatchOption r (Effect A p s c a t) (λ e. (a ≡ Err e) × (t ≡ s)) → Kept A p t
   by_refusal c a t None e f = grants c a t e f
   by_refusal c a t (Some r) e f = subst (Kept A p) (sym f.1) kept
 

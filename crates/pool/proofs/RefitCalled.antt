@@ -1,5 +1,5 @@
 -- What a call promises, from what it did. Assumes nothing.
-use Rattle.std.proofs.Common.{◌≡◌, ℕ, Some, refl}
+use Rattle.std.proofs.Common.{◌≡◌, ℕ, Some, refl, Err}
 use Rattle.layout.specs.declared.refusal.Refusal.{Refusal}
 use Rattle.field.specs.Arithmetic.{Arithmetic, Lawful}
 use Rattle.rack.specs.Meaning.{Meaning}
@@ -7,8 +7,7 @@ use Rattle.coding.specs.Schemes.{Sound, scheme_of}
 use Rattle.coding.proofs.OfPlan as of-plan
 use Rattle.pool.specs.declared.kinds.Phase.{Phase}
 use Rattle.pool.specs.declared.kinds.Call.{Call}
-use Rattle.pool.specs.declared.kinds.Answer.{Answer}
-use Rattle.pool.specs.declared.kinds.Answer.TheVariants.{Refused}
+use Rattle.pool.specs.Replies.{Answer}
 use Rattle.pool.specs.declared.pool.Pool.{Pool}
 use Rattle.pool.specs.Book.{refusal}
 use Rattle.pool.specs.Standing.{out_of}
@@ -46,15 +45,15 @@ module _ {F R : Type 0} (arithmetic : F → Arithmetic) (valid : R → Type 0) (
   -- a call that was refused
   pub refused : (x : Pool F R) → Held arithmetic valid meaning x → (c : Call) (e r : Refusal) →
       refusal (scheme_of x.plan) (arithmetic x.field).order x.phase x.carried (out_of (standing arithmetic valid meaning x)) c ≡ Some e → r ≡ e →
-      Called arithmetic valid meaning x x c (Refused r)
+      Called arithmetic valid meaning x x c (Err r)
   refused x held c e r is same =
       record {
         held = held;
         same_plan = refl;
         same_field = refl;
-        does = does_refused (arithmetic x.field) (scheme_of x.plan) (standing arithmetic valid meaning x) c (Refused r) (standing arithmetic valid meaning x) e is
+        does = does_refused (arithmetic x.field) (scheme_of x.plan) (standing arithmetic valid meaning x) c (Err r) (standing arithmetic valid meaning x) e is
             (ap_refused same) refl;
       }
     where
-      ap_refused : {x y : Refusal} → x ≡ y → Refused x ≡ Refused y
+      ap_refused : {x y : Refusal} → x ≡ y → ◌≡◌ {A = Answer} (Err x) (Err y)
       ap_refused q = cc

@@ -1,5 +1,5 @@
 -- A refit that passed its checks, and what it left. Assumes nothing.
-use Rattle.std.proofs.Common.{◌≡◌, ℕ, ◌<◌, ◌≤◌, Bool, true, false, not, ◌&&◌, leb, List, Some, None, Option, sym, refl, ap, ◌∙◌, subst, arith}
+use Rattle.std.proofs.Common.{◌≡◌, ℕ, ◌<◌, ◌≤◌, Bool, true, false, not, ◌&&◌, leb, List, Some, None, Option, sym, refl, ap, ◌∙◌, subst, arith, Ok}
 use Rattle.std.proofs.lemmas.Bool.{le-leb, lt-leb, lt-ltb, cond-true, cond-false, and_from, not_from_true, not_from_false}
 use Rattle.layout.specs.declared.refusal.Refusal.{Refusal}
 use Rattle.field.specs.Arithmetic.{Arithmetic}
@@ -9,7 +9,7 @@ use Rattle.coding.specs.Schemes.{Scheme, Sound}
 use Rattle.coding.specs.Groups.{groups}
 use Rattle.coding.specs.Steps.{flags}
 use Rattle.pool.specs.declared.kinds.Call.TheVariants.{Refit}
-use Rattle.pool.specs.declared.kinds.Answer.TheVariants.{Done}
+use Rattle.pool.specs.declared.kinds.Reply.TheVariants.{Done}
 use Rattle.layout.specs.declared.refusal.Refusal.TheVariants.{NoModule, AlreadySo, BeyondRepair}
 use Rattle.pool.specs.Book.{modules, settled, holds_piece, beyond, lowest, refuse_if, refuse_at, refusal}
 use Rattle.pool.specs.Standing.{Standing, out_of, Kept}
@@ -74,6 +74,6 @@ module _ (A : Arithmetic) (p : Scheme) (sound : Sound A p) (s : Standing) (m : �
           (through s.held room (lowest_none _ (groups p kind) none) (going_start A p kind (flags out) m s.held w fit_is)))
 
       -- the others are granted
-      pub refit_does : Does A p s (Refit m) Done (holding s w')
+      pub refit_does : Does A p s (Refit m) (Ok Done) (holding s w')
       refit_does =
-          does_granted A p s (Refit m) Done (holding s w') (refusal_is ∙ ap (λ (o : Option ℕ). refuse_at o BeyondRepair) none) (w', refitted_is, refl, refl)
+          does_granted A p s (Refit m) (Ok Done) (holding s w') (refusal_is ∙ ap (λ (o : Option ℕ). refuse_at o BeyondRepair) none) (w', refitted_is, refl, refl)

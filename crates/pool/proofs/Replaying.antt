@@ -8,7 +8,7 @@ use Rattle.layout.specs.declared.plan.Plan.{Plan}
 use Rattle.coding.specs.Schemes.{scheme_of}
 use Rattle.coding.proofs.OfPlan.{sound}
 use Rattle.pool.specs.declared.kinds.Call.{Call}
-use Rattle.pool.specs.declared.kinds.Answer.{Answer}
+use Rattle.pool.specs.Replies.{Answer}
 use Rattle.pool.specs.declared.pool.Pool.{Pool}
 use Rattle.pool.specs.Book.{Book, blank}
 use Rattle.pool.specs.Standing.{Standing, Kept}

@@ -3,7 +3,7 @@ use Rattle.std.proofs.Common.{◌≡◌, List, [], ◌∷◌, ◌++◌, sym, ref
 use Rattle.field.specs.Arithmetic.{Arithmetic, Lawful}
 use Rattle.coding.specs.Schemes.{Scheme, Sound}
 use Rattle.pool.specs.declared.kinds.Call.{Call}
-use Rattle.pool.specs.declared.kinds.Answer.{Answer}
+use Rattle.pool.specs.Replies.{Answer}
 use Rattle.pool.specs.Book.{Book, answer, after}
 use Rattle.pool.specs.Standing.{Standing, Kept}
 use Rattle.pool.specs.Agrees.{Agrees}

@@ -1,5 +1,5 @@
 -- Every call of a pool follows the book. Assumes nothing.
-use Rattle.std.proofs.Common.{◌≡◌, ℕ, ◌<◌, ◌≤◌, Bool, true, false, not, ◌&&◌, ltb, leb, Some, None, Option, sym, refl, ap, ◌∙◌, subst, MatchOption}
+use Rattle.std.proofs.Common.{◌≡◌, ℕ, ◌<◌, ◌≤◌, Bool, true, false, not, ◌&&◌, ltb, leb, Some, None, Option, sym, refl, ap, ◌∙◌, subst, MatchOption, Ok, Err}
 use Rattle.std.proofs.lemmas.Bool.{leb-false, ltb-false, not-true, not-false, both_ways}
 use Rattle.layout.specs.declared.refusal.Refusal.{Refusal}
 use Rattle.field.specs.Arithmetic.{Arithmetic, Lawful}
@@ -9,8 +9,8 @@ use Rattle.pool.specs.declared.kinds.Phase.{Phase}
 use Rattle.pool.specs.declared.kinds.Phase.TheVariants.{Before, UnderWay}
 use Rattle.pool.specs.declared.kinds.Call.{Call}
 use Rattle.pool.specs.declared.kinds.Call.TheVariants.{Read, Write, Pull, Refit, Begin, Carry, Ready, Close, Drop}
-use Rattle.pool.specs.declared.kinds.Answer.{Answer}
-use Rattle.pool.specs.declared.kinds.Answer.TheVariants.{Symbol, Carried, Refused}
+use Rattle.pool.specs.Replies.{Answer}
+use Rattle.pool.specs.declared.kinds.Reply.TheVariants.{Symbol, Carried}
 use Rattle.pool.specs.Book.{Book, settled, group_of, modules, lowest, beyond, holds_piece, refusal, is_before, granted, noted, answer_by, note_by, book_refusal, carried_data, carried_parities}
 use Rattle.pool.specs.Standing.{Standing, out_of, Kept}
 use Rattle.pool.specs.Agrees.{Agrees}
@@ -24,13 +24,13 @@ use Rattle.pool.proofs.Fitting.{pull_agrees, refit_agrees}
 
 -- a call that its checks refuse, and one that they accept
 pub does_refused : (A : Arithmetic) (p : Scheme) (s : Standing) (c : Call) (a : Answer) (t : Standing) (e : Refusal) →
-    refusal p A.order s.phase s.carried (out_of s) c ≡ Some e → a ≡ Refused e → t ≡ s → Does A p s c a t
+    refusal p A.order s.phase s.carried (out_of s) c ≡ Some e → a ≡ Err e → t ≡ s → Does A p s c a t
 does_refused A p s c a t e r is same =
-    subst (λ (o : Option Refusal). MatchOption o (Effect A p s c a t) (λ e. (a ≡ Refused e) × (t ≡ s))) (sym r) (is, same)
+    subst (λ (o : Option Refusal). MatchOption o (Effect A p s c a t) (λ e. (a ≡ Err e) × (t ≡ s))) (sym r) (is, same)
 
 pub does_granted : (A : Arithmetic) (p : Scheme) (s : Standing) (c : Call) (a : Answer) (t : Standing) →
     refusal p A.order s.phase s.carried (out_of s) c ≡ None → Effect A p s c a t → Does A p s c a t
-does_granted A p s c a t r f = subst (λ (o : Option Refusal). MatchOption o (Effect A p s c a t) (λ e. (a ≡ Refused e) × (t ≡ s))) (sym r) f
+does_granted A p s c a t r f = subst (λ (o : Option Refusal). MatchOption o (Effect A p s c a t) (λ e. (a ≡ Err e) × (t ≡ s))) (sym r) f
 
 -- what the checks that a call has passed say
 pub record WordFits (p : Scheme) (ph : Phase) (out : ℕ → Bool) (c o : ℕ) : Type 0 where
@@ -109,7 +109,7 @@ module _ (A : Arithmetic) (L : Lawful A) (p : Scheme) (sound : Sound A p) (s : S
   grants (Read c o) a t e f =
       let fits = read_fits p A.order s.phase s.carried (out_of s) c o e in
       let is : f.0 ≡ b.image c o = holds_image A L p sound s b agrees c o f.0 fits.chunk fits.offset fits.whole f.1 in
-      (f.2 ∙ ap Symbol is, told t s b f.3 agrees, no_changeover)
+      (f.2 ∙ ap (λ (v : ℕ). Ok (Symbol v)) is, told t s b f.3 agrees, no_changeover)
   grants (Write c o v) a t e f =
       let both = write_fits p A.order s.phase s.carried (out_of s) c o v e in
       let fits = both.0 in
@@ -128,7 +128,7 @@ module _ (A : Arithmetic) (L : Lawful A) (p : Scheme) (sound : Sound A p) (s : S
       )
   grants Carry a t e f =
       let fits = carry_fits p A.order s.phase s.carried (out_of s) e in (
-        f.0 ∙ ap (λ n. Carried (carried_data p n) (carried_parities p)) agrees.carried_is,
+        f.0 ∙ ap (λ n. Ok (Carried (carried_data p n) (carried_parities p))) agrees.carried_is,
         told t _ _ f.1 (carry_agrees A L p sound s b agrees fits.0 fits.1 (kept.whole fits.0)),
         λ _. same_data t _ f.1 (λ j o lj lo _. carried_chunk A L p sound s b agrees s.carried j o lj),
       )
@@ -140,7 +140,7 @@ module _ (A : Arithmetic) (L : Lawful A) (p : Scheme) (sound : Sound A p) (s : S
 
   -- by whether the call is refused
   by_refusal : (c : Call) (a : Answer) (t : Standing) (r : Option Refusal) → refusal p A.order s.phase s.carried (out_of s) c ≡ r →
-      MatchOption r (Effect A p s c a t) (λ e. (a ≡ Refused e) × (t ≡ s)) → Follows A p s b c a t
+      MatchOption r (Effect A p s c a t) (λ e. (a ≡ Err e) × (t ≡ s)) → Follows A p s b c a t
   by_refusal c a t None e f =
       let is : book_refusal p A.order b c ≡ None = sym (refused_alike A p sound s b agrees A.order c) ∙ e in
       let g = grants c a t e f in

@@ -1,5 +1,5 @@
 -- What the carries of a changeover answer adds up to what a changeover reads. Assumes nothing.
-use Rattle.std.proofs.Common.{◌≡◌, ℕ, zero, suc, ◌+◌, ◌*◌, ◌/◌, ◌≤◌, Bool, true, false, cond, not, eqb, leb, List, [], ◌∷◌, ◌++◌, Some, None, Option, sym, refl, ap, ◌∙◌, subst, add-suc, suc-mul, arith}
+use Rattle.std.proofs.Common.{◌≡◌, ℕ, zero, suc, ◌+◌, ◌*◌, ◌/◌, ◌≤◌, Bool, true, false, cond, not, eqb, leb, List, [], ◌∷◌, ◌++◌, Some, None, Option, sym, refl, ap, ◌∙◌, subst, add-suc, suc-mul, arith, Ok, Err}
 use Rattle.std.proofs.lemmas.Nat.{div-mul-add}
 use Rattle.std.specs.List.{AllByRecursion}
 use Rattle.layout.specs.declared.plan.Plan.{Plan}
@@ -18,8 +18,8 @@ use Rattle.pool.specs.declared.kinds.Phase.{Phase}
 use Rattle.pool.specs.declared.kinds.Phase.TheVariants.{Before, UnderWay, Voided, After}
 use Rattle.pool.specs.declared.kinds.Call.{Call}
 use Rattle.pool.specs.declared.kinds.Call.TheVariants.{Read, Write, Pull, Refit, Begin, Carry, Ready, Close, Drop}
-use Rattle.pool.specs.declared.kinds.Answer.{Answer}
-use Rattle.pool.specs.declared.kinds.Answer.TheVariants.{Symbol, Carried, Done, Refused}
+use Rattle.pool.specs.Replies.{Answer}
+use Rattle.pool.specs.declared.kinds.Reply.TheVariants.{Symbol, Carried, Done}
 use Rattle.pool.specs.Book.{Book, pulled_phase, carried_data, carried_parities, granted, noted, answer_by, note_by, book_refusal, answer, after}
 use Rattle.pool.specs.Standing.{Standing}
 use Rattle.pool.specs.Law.{Runs, Entry, entry, history, data_told, parities_told, summed, StaysOpen, AddsUp}
@@ -55,10 +55,10 @@ sum_constant x (suc n) = omega (arith, sum_constant x n)
 
 -- how an answer is counted: a carry of stripe i as f i, any other as nothing
 record Counts (p : Scheme) (told : Answer → ℕ) (f : ℕ → ℕ) : Type 0 where
-  at_symbol : (v : ℕ) → told (Symbol v) ≡ 0
-  at_done : told Done ≡ 0
-  at_refused : (e : Refusal) → told (Refused e) ≡ 0
-  at_carried : (i : ℕ) → told (Carried (carried_data p i) (carried_parities p)) ≡ f i
+  at_symbol : (v : ℕ) → told (Ok (Symbol v)) ≡ 0
+  at_done : told (Ok Done) ≡ 0
+  at_refused : (e : Refusal) → told (Err e) ≡ 0
+  at_carried : (i : ℕ) → told (Ok (Carried (carried_data p i) (carried_parities p))) ≡ f i
 
 -- a changeover is under way in the book, or voided
 abbrev Way : Scheme → Phase → ℕ → Type 0
@@ -132,12 +132,12 @@ module _ (p : Scheme) (q : ℕ) where
         (more.0, omega (arith, more.1, first.1, ap told log.0))
 
     -- a begin that was accepted starts from nothing
-    begins : (b : Book) (r : Option Refusal) → Done ≡ answer_by r (granted p b Begin) → note_by r (noted b Begin) b ≡ noted b Begin
+    begins : (b : Book) (r : Option Refusal) → (Ok Done) ≡ answer_by r (granted p b Begin) → note_by r (noted b Begin) b ≡ noted b Begin
     begins b None h = refl
     begins b (Some e) h = absurd (let z : ◌≡◌ {A = ℕ} 0 1 = cc in omega arith)
 
     -- and a close that was accepted ends with every stripe
-    closes : (b : Book) (r : Option Refusal) → book_refusal p q b Close ≡ r → Done ≡ answer_by r (granted p b Close) → Way p b.phase b.carried → b.carried ≡ p.stripes
+    closes : (b : Book) (r : Option Refusal) → book_refusal p q b Close ≡ r → (Ok Done) ≡ answer_by r (granted p b Close) → Way p b.phase b.carried → b.carried ≡ p.stripes
     closes b None e h way =
         let fits = close_fits p q b.phase b.carried b.out e in
         let most : b.carried ≤ p.stripes = subst (λ (ph : Phase). Way p ph b.carried) fits.0 way in
@@ -145,17 +145,17 @@ module _ (p : Scheme) (q : ℕ) where
     closes b (Some x) e h way = absurd (let z : ◌≡◌ {A = ℕ} 0 1 = cc in omega arith)
 
     -- between the two, what was told is what all the stripes count
-    whole : (b : Book) (h front within rest : List Entry) → Logged b h → h ≡ front ++ entry Begin Done ∷ (within ++ entry Close Done ∷ rest) → AllByRecursion StaysOpen within →
+    whole : (b : Book) (h front within rest : List Entry) → Logged b h → h ≡ front ++ entry Begin (Ok Done) ∷ (within ++ entry Close (Ok Done) ∷ rest) → AllByRecursion StaysOpen within →
         summed told within ≡ sum_to f p.stripes
     whole b h front within rest logged is on =
-        let log = later b front (entry Begin Done ∷ (within ++ entry Close Done ∷ rest)) (subst (Logged b) is logged) in
+        let log = later b front (entry Begin (Ok Done) ∷ (within ++ entry Close (Ok Done) ∷ rest)) (subst (Logged b) is logged) in
         let b1 : Book = past b front in
         let start : after p q b1 Begin ≡ noted b1 Begin = begins b1 (book_refusal p q b1 Begin) log.0 in
         let b2 : Book = noted b1 Begin in
-        let tail = subst (λ (k : Book). Logged k (within ++ entry Close Done ∷ rest)) start log.1 in
-        let all = several b2 within (omega arith) (sooner b2 within (entry Close Done ∷ rest) tail) on in
+        let tail = subst (λ (k : Book). Logged k (within ++ entry Close (Ok Done) ∷ rest)) start log.1 in
+        let all = several b2 within (omega arith) (sooner b2 within (entry Close (Ok Done) ∷ rest) tail) on in
         let b3 : Book = past b2 within in
-        let end : b3.carried ≡ p.stripes = closes b3 (book_refusal p q b3 Close) refl (later b2 within (entry Close Done ∷ rest) tail).0 all.0 in
+        let end : b3.carried ≡ p.stripes = closes b3 (book_refusal p q b3 Close) refl (later b2 within (entry Close (Ok Done) ∷ rest) tail).0 all.0 in
         let sum = all.1 in
         sym (ap (sum_to f) (sym end) ∙ sum ∙ omega arith)
 

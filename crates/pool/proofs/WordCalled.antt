@@ -8,8 +8,8 @@ use Rattle.coding.specs.Schemes.{Scheme, scheme_of}
 use Rattle.coding.proofs.OfPlan.{sound}
 use Rattle.pool.specs.declared.kinds.Call.{Call}
 use Rattle.pool.specs.declared.kinds.Call.TheVariants.{Write}
-use Rattle.pool.specs.declared.kinds.Answer.{Answer}
-use Rattle.pool.specs.declared.kinds.Answer.TheVariants.{Done}
+use Rattle.pool.specs.Replies.{Answer}
+use Rattle.pool.specs.declared.kinds.Reply.TheVariants.{Done}
 use Rattle.pool.specs.declared.pool.Pool.{Pool}
 use Rattle.pool.specs.declared.words.Found.{Found}
 use Rattle.layout.specs.declared.refusal.Refusal.TheVariants.{NoWord, NoSymbol}
@@ -62,10 +62,10 @@ module _ {F R : Type 0} (arithmetic : F → Arithmetic) (valid : R → Type 0) (
 
   pub write_called : (c o v : ℕ) (old : Found) → c < (scheme_of x.plan).chunks → o < x.plan.len → v < (arithmetic x.field).order →
       Looked (arithmetic x.field) (scheme_of x.plan) (standing arithmetic valid meaning x) c o (Ok old) → Wrote arithmetic valid meaning x y c o v old.symbol →
-      Called arithmetic valid meaning x y (Write c o v) Done
+      Called arithmetic valid meaning x y (Write c o v) (Ok Done)
   write_called c o v old lc lo lv looked wrote =
       let A : Arithmetic = arithmetic x.field in
       let p : Scheme = scheme_of x.plan in
       let s : Standing = standing arithmetic valid meaning x in
-      called (Write c o v) Done wrote.rack_is_valid wrote.same_plan wrote.same_field
-      (does_granted A p s (Write c o v) Done (standing arithmetic valid meaning y) (write_granted A p s c o v old lc lo lv looked) (old.symbol, looked.1, refl, wrote.written))
+      called (Write c o v) (Ok Done) wrote.rack_is_valid wrote.same_plan wrote.same_field
+      (does_granted A p s (Write c o v) (Ok Done) (standing arithmetic valid meaning y) (write_granted A p s c o v old lc lo lv looked) (old.symbol, looked.1, refl, wrote.written))

@@ -1,6 +1,6 @@
 -- The book of a pool, which is fed the calls and their arguments alone: what it refuses, what it answers, and what it notes.
 -- Assumes nothing.
-use Rattle.std.specs.Prelude.{ℕ, zero, suc, ◌+◌, ◌*◌, ◌/◌, max, Bool, true, false, cond, not, ◌&&◌, ◌||◌, Some, None, Option, ◌==◌, nat_le, nat_lt}
+use Rattle.std.specs.Prelude.{ℕ, zero, suc, ◌+◌, ◌*◌, ◌/◌, max, Bool, true, false, cond, not, ◌&&◌, ◌||◌, Some, None, Option, ◌==◌, nat_le, nat_lt, Ok, Err}
 use Rattle.layout.specs.declared.refusal.Refusal.{Refusal}
 use Rattle.coding.specs.declared.group.Kind.{Kind}
 use Rattle.coding.specs.declared.group.Kind.TheVariants.{Stripe, Row}
@@ -11,8 +11,8 @@ use Rattle.pool.specs.declared.kinds.Phase.{Phase}
 use Rattle.pool.specs.declared.kinds.Phase.TheVariants.{Before, UnderWay, Voided, After}
 use Rattle.pool.specs.declared.kinds.Call.{Call}
 use Rattle.pool.specs.declared.kinds.Call.TheVariants.{Read, Write, Pull, Refit, Begin, Carry, Ready, Close, Drop}
-use Rattle.pool.specs.declared.kinds.Answer.{Answer}
-use Rattle.pool.specs.declared.kinds.Answer.TheVariants.{Symbol, Carried, Done, Refused}
+use Rattle.pool.specs.Replies.{Answer}
+use Rattle.pool.specs.declared.kinds.Reply.TheVariants.{Symbol, Carried, Done}
 use Rattle.layout.specs.declared.refusal.Refusal.TheVariants.{NoModule, NoWord, NoSymbol, WrongPhase, AlreadySo, ModuleOut, ChangeoverVoided, WrongCount, BeyondRepair}
 
 -- the symbol of each chunk and offset, the modules out, the phase, and how many stripes are carried: the changeover has added
@@ -124,15 +124,15 @@ carried_parities p = cond (nat_le p.r' p.r) p.r' 0
 
 -- what an accepted call answers
 abbrev pub granted : Scheme → Book → Call → Answer
-granted p b (Read c o) = Symbol (b.image c o)
-granted p b (Write c o v) = Done
-granted p b (Pull m) = Done
-granted p b (Refit m) = Done
-granted p b Begin = Done
-granted p b Carry = Carried (carried_data p b.carried) (carried_parities p)
-granted p b Ready = Done
-granted p b Close = Done
-granted p b Drop = Done
+granted p b (Read c o) = Ok (Symbol (b.image c o))
+granted p b (Write c o v) = Ok Done
+granted p b (Pull m) = Ok Done
+granted p b (Refit m) = Ok Done
+granted p b Begin = Ok Done
+granted p b Carry = Ok (Carried (carried_data p b.carried) (carried_parities p))
+granted p b Ready = Ok Done
+granted p b Close = Ok Done
+granted p b Drop = Ok Done
 
 -- a pull turns phase 1 into 2, a drop phases 1 and 2 into 0
 abbrev pub pulled_phase : Phase → Phase
@@ -162,7 +162,7 @@ noted b Drop = record { image = b.image; out = b.out; phase = dropped_phase b.ph
 -- a refused call leaves the book as it is
 abbrev pub answer_by : Option Refusal → Answer → Answer
 answer_by None a = a
-answer_by (Some e) a = Refused e
+answer_by (Some e) a = Err e
 
 abbrev pub note_by : Option Refusal → Book → Book → Book
 note_by None new old = new

@@ -1,5 +1,5 @@
 -- What each call answers and leaves in memory, from any standing. Assumes nothing.
-use Rattle.std.specs.Prelude.{◌≡◌, ℕ, suc, ◌+◌, ◌-◌, ◌*◌, ◌/◌, ◌<◌, Bool, true, false, cond, ◌&&◌, ◌||◌, MatchBool, MatchOption, ◌==◌, ◌≢◌, nat_le, nat_lt}
+use Rattle.std.specs.Prelude.{◌≡◌, ℕ, suc, ◌+◌, ◌-◌, ◌*◌, ◌/◌, ◌<◌, Bool, true, false, cond, ◌&&◌, ◌||◌, MatchBool, MatchOption, ◌==◌, ◌≢◌, nat_le, nat_lt, Ok, Err}
 use Rattle.field.specs.Arithmetic.{Arithmetic}
 use Rattle.field.specs.Sums.{total, minus, coefficient}
 use Rattle.rack.specs.Meaning.{Meaning, flagged}
@@ -11,8 +11,8 @@ use Rattle.pool.specs.declared.kinds.Phase.{Phase}
 use Rattle.pool.specs.declared.kinds.Phase.TheVariants.{Before, UnderWay, Voided, After}
 use Rattle.pool.specs.declared.kinds.Call.{Call}
 use Rattle.pool.specs.declared.kinds.Call.TheVariants.{Read, Write, Pull, Refit, Begin, Carry, Ready, Close, Drop}
-use Rattle.pool.specs.declared.kinds.Answer.{Answer}
-use Rattle.pool.specs.declared.kinds.Answer.TheVariants.{Symbol, Carried, Done, Refused}
+use Rattle.pool.specs.Replies.{Answer}
+use Rattle.pool.specs.declared.kinds.Reply.TheVariants.{Symbol, Carried, Done}
 use Rattle.pool.specs.Book.{settled, group_of, refusal, carried_data, carried_parities, pulled_phase, dropped_phase}
 use Rattle.pool.specs.Standing.{Standing, out_of}
 
@@ -109,18 +109,18 @@ pub record Refitted (A : Arithmetic) (p : Scheme) (s : Standing) (m : ℕ) (w : 
 
 -- what an accepted call answers, and how it leaves the pool
 abbrev pub Effect : Arithmetic → Scheme → Standing → Call → Answer → Standing → Type 0
-Effect A p s (Read c o) a t = (v : ℕ) × Holds A p s c o v × (a ≡ Symbol v) × (t ≡ s)
-Effect A p s (Write c o v) a t = (old : ℕ) × Holds A p s c o old × (a ≡ Done) × (t ≡ holding s (changed s.held (written_symbol A p s c o v old)))
-Effect A p s (Pull m) a t = (a ≡ Done) × (t ≡ record { phase = pulled_phase s.phase; carried = s.carried; held = flagged s.held m false })
-Effect A p s (Refit m) a t = (w : Meaning) × Refitted A p s m w × (a ≡ Done) × (t ≡ holding s w)
-Effect A p s Begin a t = (a ≡ Done) × (t ≡ record { phase = UnderWay; carried = 0; held = changed s.held (begun_symbol p s.held) })
+Effect A p s (Read c o) a t = (v : ℕ) × Holds A p s c o v × (a ≡ Ok (Symbol v)) × (t ≡ s)
+Effect A p s (Write c o v) a t = (old : ℕ) × Holds A p s c o old × (a ≡ Ok Done) × (t ≡ holding s (changed s.held (written_symbol A p s c o v old)))
+Effect A p s (Pull m) a t = (a ≡ Ok Done) × (t ≡ record { phase = pulled_phase s.phase; carried = s.carried; held = flagged s.held m false })
+Effect A p s (Refit m) a t = (w : Meaning) × Refitted A p s m w × (a ≡ Ok Done) × (t ≡ holding s w)
+Effect A p s Begin a t = (a ≡ Ok Done) × (t ≡ record { phase = UnderWay; carried = 0; held = changed s.held (begun_symbol p s.held) })
 Effect A p s Carry a t =
-    (a ≡ Carried (carried_data p s.carried) (carried_parities p))
+    (a ≡ Ok (Carried (carried_data p s.carried) (carried_parities p)))
     × (t ≡ record { phase = s.phase; carried = suc s.carried; held = changed s.held (carried_symbol A p s.carried s.held) })
-Effect A p s Ready a t = (a ≡ Done) × (t ≡ s)
-Effect A p s Close a t = (a ≡ Done) × (t ≡ record { phase = After; carried = s.carried; held = s.held })
-Effect A p s Drop a t = (a ≡ Done) × (t ≡ record { phase = dropped_phase s.phase; carried = s.carried; held = s.held })
+Effect A p s Ready a t = (a ≡ Ok Done) × (t ≡ s)
+Effect A p s Close a t = (a ≡ Ok Done) × (t ≡ record { phase = After; carried = s.carried; held = s.held })
+Effect A p s Drop a t = (a ≡ Ok Done) × (t ≡ record { phase = dropped_phase s.phase; carried = s.carried; held = s.held })
 
 -- a call is refused by the rules, and then alters nothing, or it has its effect
 abbrev pub Does : Arithmetic → Scheme → Standing → Call → Answer → Standing → Type 0
-Does A p s c a t = MatchOption (refusal p A.order s.phase s.carried (out_of s) c) (Effect A p s c a t) (λ e. (a ≡ Refused e) × (t ≡ s))
+Does A p s c a t = MatchOption (refusal p A.order s.phase s.carried (out_of s) c) (Effect A p s c a t) (λ e. (a ≡ Err e) × (t ≡ s))

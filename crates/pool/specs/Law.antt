@@ -1,13 +1,13 @@
 -- The law over every list of calls. Assumes nothing.
-use Rattle.std.specs.Prelude.{◌≡◌, ℕ, ◌+◌, ◌<◌, Bool, true, false, List, [], ◌∷◌, ◌++◌, ◌≢◌}
+use Rattle.std.specs.Prelude.{◌≡◌, ℕ, ◌+◌, ◌<◌, Bool, true, false, List, [], ◌∷◌, ◌++◌, ◌≢◌, Ok, Err}
 use Rattle.std.specs.List.{AllByRecursion}
 use Rattle.field.specs.Arithmetic.{Arithmetic}
 use Rattle.rack.specs.Meaning.{Meaning}
 use Rattle.coding.specs.Schemes.{Scheme}
 use Rattle.pool.specs.declared.kinds.Call.{Call}
 use Rattle.pool.specs.declared.kinds.Call.TheVariants.{Read, Write, Pull, Refit, Begin, Carry, Ready, Close, Drop}
-use Rattle.pool.specs.declared.kinds.Answer.{Answer}
-use Rattle.pool.specs.declared.kinds.Answer.TheVariants.{Symbol, Carried, Done, Refused}
+use Rattle.pool.specs.Replies.{Answer}
+use Rattle.pool.specs.declared.kinds.Reply.TheVariants.{Symbol, Carried, Done}
 use Rattle.pool.specs.Book.{Book, answer, after}
 use Rattle.pool.specs.Standing.{Standing}
 use Rattle.pool.specs.Agrees.{Agrees}
@@ -75,16 +75,16 @@ history (c ∷ cs) (y ∷ ys) = entry c y ∷ history cs ys
 
 -- the data chunks and the parity chunks that answers say were read
 abbrev pub data_told : Answer → ℕ
-data_told (Symbol v) = 0
-data_told (Carried m k) = m
-data_told Done = 0
-data_told (Refused e) = 0
+data_told (Ok (Symbol v)) = 0
+data_told (Ok (Carried m k)) = m
+data_told (Ok Done) = 0
+data_told (Err e) = 0
 
 abbrev pub parities_told : Answer → ℕ
-parities_told (Symbol v) = 0
-parities_told (Carried m k) = k
-parities_told Done = 0
-parities_told (Refused e) = 0
+parities_told (Ok (Symbol v)) = 0
+parities_told (Ok (Carried m k)) = k
+parities_told (Ok Done) = 0
+parities_told (Err e) = 0
 
 abbrev pub summed : (Answer → ℕ) → List Entry → ℕ
 summed f [] = 0
@@ -92,11 +92,11 @@ summed f (e ∷ es) = f e.told + summed f es
 
 -- neither a close nor a drop that was accepted
 abbrev pub StaysOpen : Entry → Type 0
-StaysOpen e = (e ≢ entry Close Done) × (e ≢ entry Drop Done)
+StaysOpen e = (e ≢ entry Close (Ok Done)) × (e ≢ entry Drop (Ok Done))
 
 -- Wherever a begin was accepted and later a close, and between them neither a close nor a drop was, the numbers that the carries
 -- between them answered add up to these.
 abbrev pub AddsUp : ℕ → ℕ → List Entry → Type 0
 AddsUp data-chunks parity-chunks h =
-    (front within rest : List Entry) → h ≡ front ++ entry Begin Done ∷ (within ++ entry Close Done ∷ rest) → AllByRecursion StaysOpen within →
+    (front within rest : List Entry) → h ≡ front ++ entry Begin (Ok Done) ∷ (within ++ entry Close (Ok Done) ∷ rest) → AllByRecursion StaysOpen within →
     (summed data_told within ≡ data-chunks) × (summed parities_told within ≡ parity-chunks)

@@ -1,3 +1,4 @@
+pub mod Replies
 pub mod Book
 pub mod Standing
 pub mod Agrees

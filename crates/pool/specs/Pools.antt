@@ -4,7 +4,7 @@ use Rattle.field.specs.Arithmetic.{Arithmetic}
 use Rattle.rack.specs.Meaning.{Meaning}
 use Rattle.coding.specs.Schemes.{scheme_of}
 use Rattle.pool.specs.declared.kinds.Call.{Call}
-use Rattle.pool.specs.declared.kinds.Answer.{Answer}
+use Rattle.pool.specs.Replies.{Answer}
 use Rattle.pool.specs.declared.pool.Pool.{Pool}
 use Rattle.pool.specs.Standing.{Standing, Kept}
 use Rattle.pool.specs.Effects.{Does}

@@ -6,7 +6,7 @@ use Rattle.layout.specs.declared.plan.Plan.{Plan}
 use Rattle.layout.specs.Counts.{data_read, parities_read}
 use Rattle.coding.specs.Schemes.{scheme_of}
 use Rattle.pool.specs.declared.kinds.Call.{Call}
-use Rattle.pool.specs.declared.kinds.Answer.{Answer}
+use Rattle.pool.specs.Replies.{Answer}
 use Rattle.pool.specs.declared.pool.Pool.{Pool}
 use Rattle.pool.specs.Book.{Book, blank}
 use Rattle.pool.specs.Standing.{Standing}

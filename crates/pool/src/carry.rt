@@ -12,7 +12,7 @@ ghost use Rattle.pool.specs.Results.{of_counts};
 ghost use Rattle.pool.specs.declared.kinds.Call.TheVariants.{Carry};
 
 use crate::adding::add_at;
-use crate::kinds::Phase;
+use crate::changeover::under_way;
 use crate::load::Load;
 use crate::orders::Order;
 use crate::pool::Pool;
@@ -291,27 +291,13 @@ fn counts_of(load: &Load) -> (u16, u16)
     }
 }
 
-/// Why a call that wants a changeover under way is refused in a phase; none where it is under way.
-fn not_under_way(phase: Phase) -> Option<Refusal>
-    ensures { result ≡ under_way_refusal phase None }
-{
-    match phase {
-        Phase::Before => Some(Refusal::WrongPhase(0)),
-        Phase::UnderWay => None,
-        Phase::Voided => Some(Refusal::ChangeoverVoided),
-        Phase::After => Some(Refusal::WrongPhase(3)),
-    }
-}
-
 impl<F: Field, R: Rack> Pool<F, R> {
     /// Carries the next stripe: what it adds goes into the staged parities of the rows. Answers how many data chunks and how
     /// many parity chunks were read.
     pub(crate) fn carry_stripe(&mut self) -> Result<(u16, u16), Refusal>
         ensures { Obeys F.arithmetic R.valid R.meaning self.old self.new Carry (of_counts result) }
     {
-        if let Some(refusal) = not_under_way(self.phase) {
-            return Err(refusal);
-        }
+        under_way(self.phase)?;
         let Some(load) = load_of(&self.field, &self.plan, self.carried) else {
             return Err(Refusal::WrongCount(self.carried));
         };

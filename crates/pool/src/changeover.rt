@@ -1,11 +1,12 @@
 // The changeover: begun, made ready, closed or dropped.
-ghost use Rattle.std.specs.Prelude.{◌≡◌, IfOk, IfErr};
+ghost use Rattle.std.specs.Prelude.{◌≡◌, IfOk, IfErr, Ok, None};
 ghost use Rattle.layout.specs.Placing.{stripes_of};
 ghost use Rattle.pool.specs.Asked.{refusal_of};
-ghost use Rattle.pool.specs.Book.{dropped_phase, phase_number};
+ghost use Rattle.pool.specs.Book.{dropped_phase, under_way_refusal};
+ghost use Rattle.pool.specs.Openings.{why_not};
 ghost use Rattle.pool.specs.Pools.{Obeys};
 ghost use Rattle.pool.specs.Results.{of_done, of_order};
-ghost use Rattle.pool.specs.declared.kinds.Answer.TheVariants.{Done};
+ghost use Rattle.pool.specs.declared.kinds.Reply.TheVariants.{Done};
 ghost use Rattle.pool.specs.declared.kinds.Call.TheVariants.{Begin, Ready, Close, Drop};
 
 use crate::kinds::Phase;
@@ -15,18 +16,6 @@ use crate::sweep::{clear_block, lowest_out};
 use field::Field;
 use layout::refusal::Refusal;
 use rack::rack::Rack;
-
-/// The number of a phase.
-fn phase_number(phase: Phase) -> u16
-    ensures { result ≡ phase_number phase }
-{
-    match phase {
-        Phase::Before => 0,
-        Phase::UnderWay => 1,
-        Phase::Voided => 2,
-        Phase::After => 3,
-    }
-}
 
 /// The phase that dropping a changeover leaves.
 fn dropped(phase: Phase) -> Phase
@@ -38,36 +27,40 @@ fn dropped(phase: Phase) -> Phase
     }
 }
 
+/// Whether a changeover is under way.
+pub(crate) fn under_way(phase: Phase) -> Result<(), Refusal>
+    ensures { why_not result ≡ under_way_refusal phase None }
+{
+    match phase {
+        Phase::UnderWay => Ok(()),
+        Phase::Voided => Err(Refusal::ChangeoverVoided),
+        Phase::Before | Phase::After => Err(Refusal::WrongPhase(u16::from(phase))),
+    }
+}
+
 impl<F: Field, R: Rack> Pool<F, R> {
-    /// Why no changeover can begin.
-    fn begin_refusal(&self) -> Option<Refusal>
-        ensures { R.valid self.now.rack → result ≡ refusal_of F.arithmetic R.valid R.meaning self.now Begin }
+    /// Whether a changeover can begin.
+    fn can_begin(&self) -> Result<(), Refusal>
+        ensures { R.valid self.now.rack → why_not result ≡ refusal_of F.arithmetic R.valid R.meaning self.now Begin }
     {
-        match self.phase {
-            Phase::Before => match lowest_out(&self.rack, self.plan.modules()) {
-                Some(module) => Some(Refusal::ModuleOut(module)),
-                None => None,
-            },
-            phase => Some(Refusal::WrongPhase(phase_number(phase))),
+        if self.phase != Phase::Before {
+            return Err(Refusal::WrongPhase(u16::from(self.phase)));
+        }
+        match lowest_out(&self.rack, self.plan.modules()) {
+            Some(module) => Err(Refusal::ModuleOut(module)),
+            None => Ok(()),
         }
     }
 
-    /// Why the changeover can be neither made ready nor closed.
-    fn close_refusal(&self) -> Option<Refusal>
-        ensures { result ≡ refusal_of F.arithmetic R.valid R.meaning self.now Close }
+    /// Whether the changeover can be made ready, and closed.
+    fn can_close(&self) -> Result<(), Refusal>
+        ensures { why_not result ≡ refusal_of F.arithmetic R.valid R.meaning self.now Close }
     {
-        match self.phase {
-            Phase::Before => Some(Refusal::WrongPhase(0)),
-            Phase::UnderWay => {
-                if self.carried < self.plan.stripes() {
-                    Some(Refusal::WrongCount(self.carried))
-                } else {
-                    None
-                }
-            }
-            Phase::Voided => Some(Refusal::ChangeoverVoided),
-            Phase::After => Some(Refusal::WrongPhase(3)),
+        under_way(self.phase)?;
+        if self.carried < self.plan.stripes() {
+            return Err(Refusal::WrongCount(self.carried));
         }
+        Ok(())
     }
 
     /// Begins the changeover: the staged parities of all rows are 0, and no stripe is carried. Refused where a changeover is under
@@ -76,9 +69,7 @@ impl<F: Field, R: Rack> Pool<F, R> {
         ensures book { Obeys F.arithmetic R.valid R.meaning self.old self.new Begin (of_done result) }
         ensures number { IfOk result (λ o. o.stripes ≡ stripes_of self.old.plan.d self.old.plan.d2) }
     {
-        if let Some(refusal) = self.begin_refusal() {
-            return Err(refusal);
-        }
+        self.can_begin()?;
         let plan = self.plan;
         let stripes = plan.stripes();
         let slots = plan.slots();
@@ -102,7 +93,7 @@ impl<F: Field, R: Rack> Pool<F, R> {
         ensures back { IfErr result (λ e. e.0 ≡ order) }
         ensures number { IfOk result (λ o. o.stripes ≡ order.stripes) }
     {
-        if let Some(refusal) = self.close_refusal() {
+        if let Err(refusal) = self.can_close() {
             return Err((order, refusal));
         }
         Ok(ReadyOrder::of(order.spend()))
@@ -114,7 +105,7 @@ impl<F: Field, R: Rack> Pool<F, R> {
         ensures book { Obeys F.arithmetic R.valid R.meaning self.old self.new Close (of_order result) }
         ensures back { IfErr result (λ e. e.0 ≡ order) }
     {
-        if let Some(refusal) = self.close_refusal() {
+        if let Err(refusal) = self.can_close() {
             return Err((order, refusal));
         }
         let _ = order.spend();
@@ -124,7 +115,7 @@ impl<F: Field, R: Rack> Pool<F, R> {
 
     /// Gives the changeover up, whether it is under way or voided, and ends its order. It is never refused.
     pub fn drop(&mut self, order: AnyOrder)
-        ensures { Obeys F.arithmetic R.valid R.meaning self.old self.new Drop Done }
+        ensures { Obeys F.arithmetic R.valid R.meaning self.old self.new Drop (Ok Done) }
     {
         order.spend();
         self.phase = dropped(self.phase);

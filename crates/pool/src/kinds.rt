@@ -1,4 +1,7 @@
 // The plain values of a pool: phases, calls and answers.
+ghost use Rattle.std.specs.Prelude.{◌≡◌};
+ghost use Rattle.pool.specs.Book.{phase_number};
+
 use layout::refusal::Refusal;
 
 /// Where a pool stands with its changeover.
@@ -12,6 +15,20 @@ pub enum Phase {
     Voided,
     /// 3: done; the parities of the rows are settled
     After,
+}
+
+/// The number of a phase.
+impl From<Phase> for u16 {
+    ghost from_gives = { λ phase number. number ≡ phase_number phase };
+
+    fn from(phase: Phase) -> u16 {
+        match phase {
+            Phase::Before => 0,
+            Phase::UnderWay => 1,
+            Phase::Voided => 2,
+            Phase::After => 3,
+        }
+    }
 }
 
 /// A call of a pool, with its arguments.
@@ -32,13 +49,16 @@ pub enum Call {
     Drop,
 }
 
-/// What a call answers.
+/// What an accepted call tells.
 #[derive(Clone, Copy, PartialEq, Eq, Debug)]
-pub enum Answer {
+pub enum Reply {
     /// the symbol that was read
     Symbol(u16),
     /// the data chunks and the parity chunks that were read
     Carried(u16, u16),
+    /// nothing but that it is done
     Done,
-    Refused(Refusal),
 }
+
+/// What a call answers.
+pub type Answer = Result<Reply, Refusal>;

@@ -4,7 +4,7 @@ ghost use Rattle.coding.specs.Schemes.{scheme_of};
 ghost use Rattle.layout.specs.Labels.{label_of, Writes, ReadsBack};
 ghost use Rattle.pool.specs.Agrees.{Agrees};
 ghost use Rattle.pool.specs.Book.{blank};
-ghost use Rattle.pool.specs.Openings.{why_not, fit_refusal, lay_refusal, open_refusal, laid_over, opened_phase, opened, is_after, label_in};
+ghost use Rattle.pool.specs.Openings.{why_not, fit_refusal, lay_refusal, open_refusal, laid_over, opened_phase, opened, label_in};
 ghost use Rattle.pool.specs.Pools.{Held, standing};
 
 use crate::kinds::Phase;
@@ -16,26 +16,26 @@ use layout::plan::Plan;
 use layout::refusal::Refusal;
 use rack::rack::Rack;
 
-/// Why a field and a rack do not fit a plan: their orders first, then the rack's modules, slots and offsets.
-fn fit_refusal<F: Field, R: Rack>(plan: &Plan, field: &F, rack: &R) -> Option<Refusal>
-    ensures { result ≡ fit_refusal plan.now (F.arithmetic field.now).order (R.meaning rack.now) }
+/// Whether a field and a rack fit a plan: their orders first, then the rack's modules, slots and offsets.
+fn check_fit<F: Field, R: Rack>(plan: &Plan, field: &F, rack: &R) -> Result<(), Refusal>
+    ensures { why_not result ≡ fit_refusal plan.now (F.arithmetic field.now).order (R.meaning rack.now) }
 {
     if field.order() != plan.order {
-        return Some(Refusal::DoesNotFit(1));
+        return Err(Refusal::DoesNotFit(1));
     }
     if rack.order() != plan.order {
-        return Some(Refusal::DoesNotFit(2));
+        return Err(Refusal::DoesNotFit(2));
     }
     if rack.modules() < plan.modules() {
-        return Some(Refusal::DoesNotFit(3));
+        return Err(Refusal::DoesNotFit(3));
     }
     if rack.slots() < plan.slots() {
-        return Some(Refusal::DoesNotFit(4));
+        return Err(Refusal::DoesNotFit(4));
     }
     if rack.length() < plan.len {
-        return Some(Refusal::DoesNotFit(5));
+        return Err(Refusal::DoesNotFit(5));
     }
-    None
+    Ok(())
 }
 
 /// The phase that a label says.
@@ -45,24 +45,12 @@ fn phase_of(after: bool) -> Phase
     if after { Phase::After } else { Phase::Before }
 }
 
-/// Whether a phase is that after the changeover.
-fn is_after(phase: Phase) -> bool
-    ensures { result ≡ is_after phase }
-{
-    match phase {
-        Phase::Before | Phase::UnderWay | Phase::Voided => false,
-        Phase::After => true,
-    }
-}
-
 impl<F: Field, R: Rack> Pool<F, R> {
     /// Says whether a pool can be laid: the field and the rack fit the plan, and every module of the plan is fitted.
     pub fn check_lay(plan: &Plan, field: &F, rack: &R) -> Result<(), Refusal>
         ensures { R.valid rack.now → why_not result ≡ lay_refusal plan.now (F.arithmetic field.now).order (R.meaning rack.now) }
     {
-        if let Some(refusal) = fit_refusal(plan, field, rack) {
-            return Err(refusal);
-        }
+        check_fit(plan, field, rack)?;
         match lowest_out(rack, plan.modules()) {
             Some(module) => Err(Refusal::ModuleOut(module)),
             None => Ok(()),
@@ -99,10 +87,8 @@ impl<F: Field, R: Rack> Pool<F, R> {
         ensures fits { IfOk result (λ m. fit_refusal m.plan (F.arithmetic field.now).order (R.meaning rack.now) ≡ None) }
     {
         let label = Label::read(bytes)?;
-        match fit_refusal(&label.plan, field, rack) {
-            Some(refusal) => Err(refusal),
-            None => Ok(label),
-        }
+        check_fit(&label.plan, field, rack)?;
+        Ok(label)
     }
 
     /// Opens the pool of a label over a rack that the check does not refuse. It writes nothing.
@@ -127,7 +113,7 @@ impl<F: Field, R: Rack> Pool<F, R> {
     {
         Label {
             plan: self.plan,
-            after: is_after(self.phase),
+            after: self.phase == Phase::After,
         }
     }
 

@@ -1,18 +1,18 @@
 // What a changeover in hand is held by: an order from its begin on, and a ready order from its ready on.
 ghost use Rattle.std.specs.Prelude.{◌≡◌};
 
-/// A changeover that has begun. It is made ready or dropped, and cannot be let go: it is not `Drop`, so the check refuses a program
+/// A changeover in hand: `READY` says whether it may be closed. It cannot be let go: it is not `Drop`, so the check refuses a program
 /// that lets one go. It bears no mark of its pool.
-pub struct Order {
+pub struct Changeover<const READY: bool> {
     /// how many stripes there were to carry
     stripes: u16,
 }
 
-/// A changeover that may be closed. It is closed or dropped, and cannot be let go: it is not `Drop`.
-pub struct ReadyOrder {
-    /// how many stripes there were to carry
-    stripes: u16,
-}
+/// A changeover that has begun. It is made ready or dropped.
+pub type Order = Changeover<false>;
+
+/// A changeover that may be closed. It is closed or dropped.
+pub type ReadyOrder = Changeover<true>;
 
 /// An order of either sort, to drop.
 pub enum AnyOrder {
@@ -20,57 +20,19 @@ pub enum AnyOrder {
     Made(ReadyOrder),
 }
 
-impl Order {
+impl<const READY: bool> Changeover<READY> {
     /// An order for so many stripes.
-    pub(crate) fn of(stripes: u16) -> Order
+    pub(crate) fn of(stripes: u16) -> Changeover<READY>
         ensures { result.stripes ≡ stripes }
     {
-        Order { stripes }
-    }
-
-    /// Some order, that no pool gave.
-    pub(crate) fn any() -> Order
-        ensures { result.stripes ≡ 0 }
-    {
-        Order { stripes: 0 }
+        Changeover { stripes }
     }
 
     /// Ends the order, and says its number.
     pub(crate) fn spend(self) -> u16
-        ensures { result ≡ self.stripes }
+        ensures { result ≡ self.entry.stripes }
     {
-        let Order { stripes } = self;
-        stripes
-    }
-
-    /// How many stripes there were to carry when it was given.
-    pub fn stripes(&self) -> u16
-        ensures { result ≡ self.now.stripes }
-    {
-        self.stripes
-    }
-}
-
-impl ReadyOrder {
-    /// A ready order for so many stripes.
-    pub(crate) fn of(stripes: u16) -> ReadyOrder
-        ensures { result.stripes ≡ stripes }
-    {
-        ReadyOrder { stripes }
-    }
-
-    /// Some ready order, that no pool gave.
-    pub(crate) fn any() -> ReadyOrder
-        ensures { result.stripes ≡ 0 }
-    {
-        ReadyOrder { stripes: 0 }
-    }
-
-    /// Ends the order, and says its number.
-    pub(crate) fn spend(self) -> u16
-        ensures { result ≡ self.stripes }
-    {
-        let ReadyOrder { stripes } = self;
+        let Changeover { stripes } = self;
         stripes
     }
 
@@ -85,13 +47,9 @@ impl ReadyOrder {
 impl AnyOrder {
     /// Ends the order, whichever it is.
     pub(crate) fn spend(self) {
-        match self {
-            AnyOrder::Begun(order) => {
-                let _ = order.spend();
-            }
-            AnyOrder::Made(order) => {
-                let _ = order.spend();
-            }
-        }
+        let _ = match self {
+            AnyOrder::Begun(order) => order.spend(),
+            AnyOrder::Made(order) => order.spend(),
+        };
     }
 }

@@ -2,45 +2,13 @@
 ghost use Rattle.std.specs.Prelude.{◌≡◌, ◌<◌, ◌≤◌, length, take, drop};
 ghost use Rattle.pool.specs.Pools.{Obeys};
 ghost use Rattle.pool.specs.Replays.{Replays};
-ghost use Rattle.pool.specs.Results.{of_done, of_symbol, of_counts};
 ghost use Rattle.pool.specs.declared.kinds.Call.TheVariants.{Begin, Carry, Ready, Close, Drop};
 
-use crate::kinds::{Answer, Call};
+use crate::kinds::{Answer, Call, Reply};
 use crate::orders::{AnyOrder, Order, ReadyOrder};
 use crate::pool::Pool;
 use field::Field;
-use layout::refusal::Refusal;
 use rack::rack::Rack;
-
-/// What a read answers.
-fn symbol_told(res: Result<u16, Refusal>) -> Answer
-    ensures { result ≡ of_symbol res }
-{
-    match res {
-        Ok(symbol) => Answer::Symbol(symbol),
-        Err(refusal) => Answer::Refused(refusal),
-    }
-}
-
-/// What a call answers that only says that it is done.
-fn done_told(res: Result<(), Refusal>) -> Answer
-    ensures { result ≡ of_done res }
-{
-    match res {
-        Ok(()) => Answer::Done,
-        Err(refusal) => Answer::Refused(refusal),
-    }
-}
-
-/// What a carry answers.
-fn counts_told(res: Result<(u16, u16), Refusal>) -> Answer
-    ensures { result ≡ of_counts res }
-{
-    match res {
-        Ok((data, parities)) => Answer::Carried(data, parities),
-        Err(refusal) => Answer::Refused(refusal),
-    }
-}
 
 /// How many of the calls there is room to answer.
 fn room_for(calls: &[Call], told: &[Answer]) -> usize
@@ -61,27 +29,23 @@ impl<F: Field, R: Rack> Pool<F, R> {
     fn begin_told(&mut self) -> Answer
         ensures { Obeys F.arithmetic R.valid R.meaning self.old self.new Begin result }
     {
-        match self.begin() {
-            Ok(order) => {
-                let _ = order.spend();
-                Answer::Done
-            }
-            Err(refusal) => Answer::Refused(refusal),
-        }
+        let order = self.begin()?;
+        let _ = order.spend();
+        Ok(Reply::Done)
     }
 
     /// Makes the changeover ready, with an order that stands in for the one that its begin gave.
     fn ready_told(&self) -> Answer
         ensures { Obeys F.arithmetic R.valid R.meaning self.now self.now Ready result }
     {
-        match self.ready(Order::any()) {
+        match self.ready(Order::of(0)) {
             Ok(order) => {
                 let _ = order.spend();
-                Answer::Done
+                Ok(Reply::Done)
             }
             Err((order, refusal)) => {
                 let _ = order.spend();
-                Answer::Refused(refusal)
+                Err(refusal)
             }
         }
     }
@@ -90,11 +54,11 @@ impl<F: Field, R: Rack> Pool<F, R> {
     fn close_told(&mut self) -> Answer
         ensures { Obeys F.arithmetic R.valid R.meaning self.old self.new Close result }
     {
-        match self.close(ReadyOrder::any()) {
-            Ok(()) => Answer::Done,
+        match self.close(ReadyOrder::of(0)) {
+            Ok(()) => Ok(Reply::Done),
             Err((order, refusal)) => {
                 let _ = order.spend();
-                Answer::Refused(refusal)
+                Err(refusal)
             }
         }
     }
@@ -103,18 +67,19 @@ impl<F: Field, R: Rack> Pool<F, R> {
     fn carry_told(&mut self) -> Answer
         ensures { Obeys F.arithmetic R.valid R.meaning self.old self.new Carry result }
     {
-        let order = Order::any();
-        let told = counts_told(self.carry(&order));
+        let order = Order::of(0);
+        let counts = self.carry(&order);
         let _ = order.spend();
-        told
+        let (data, parities) = counts?;
+        Ok(Reply::Carried(data, parities))
     }
 
     /// Gives the changeover up, with an order that stands in.
     fn drop_told(&mut self) -> Answer
         ensures { Obeys F.arithmetic R.valid R.meaning self.old self.new Drop result }
     {
-        self.drop(AnyOrder::Begun(Order::any()));
-        Answer::Done
+        self.drop(AnyOrder::Begun(Order::of(0)));
+        Ok(Reply::Done)
     }
 
     /// Makes a call. An order bears no mark of its pool, so that any order stands in where the call takes one.
@@ -122,10 +87,12 @@ impl<F: Field, R: Rack> Pool<F, R> {
         ensures { Obeys F.arithmetic R.valid R.meaning self.old self.new call result }
     {
         match call {
-            Call::Read(chunk, offset) => symbol_told(self.read(chunk, offset)),
-            Call::Write(chunk, offset, symbol) => done_told(self.write(chunk, offset, symbol)),
-            Call::Pull(module) => done_told(self.pull(module)),
-            Call::Refit(module) => done_told(self.refit(module)),
+            Call::Read(chunk, offset) => self.read(chunk, offset).map(Reply::Symbol),
+            Call::Write(chunk, offset, symbol) => {
+                self.write(chunk, offset, symbol).map(|()| Reply::Done)
+            }
+            Call::Pull(module) => self.pull(module).map(|()| Reply::Done),
+            Call::Refit(module) => self.refit(module).map(|()| Reply::Done),
             Call::Begin => self.begin_told(),
             Call::Carry => self.carry_told(),
             Call::Ready => self.ready_told(),

@@ -1,7 +1,7 @@
-use Rattle.std.proofs.Common.{◌≡◌, ℕ, ◌<◌, ◌≤◌, true, false, Option, sym, refl, ap, ◌∙◌, arith}
+use Rattle.std.proofs.Common.{◌≡◌, ℕ, ◌<◌, ◌≤◌, true, false, Option, sym, refl, ap, ◌∙◌, arith, Ok}
 use Rattle.coding.specs.Schemes.{scheme_of}
 use Rattle.pool.specs.declared.kinds.Call.TheVariants.{Refit}
-use Rattle.pool.specs.declared.kinds.Answer.TheVariants.{Done}
+use Rattle.pool.specs.declared.kinds.Reply.TheVariants.{Done}
 use Rattle.layout.specs.declared.refusal.Refusal.TheVariants.{NoModule, AlreadySo, BeyondRepair}
 use Rattle.pool.specs.Book.{modules, refuse_at}
 use Rattle.pool.specs.Pools.{standing}
@@ -63,7 +63,7 @@ returns g c =
     let pulled : (meaning x.rack).fitted m ≡ false = sym (asked (meaning x.rack) h.kept.bounded m) ∙ sym (c.if-ask.ensures h.rack_is_valid) in
     let fit = c.fit.ensures h.rack_is_valid in
     let done = c.restore.ensures fit.1 in
-    called arithmetic valid meaning x (g.met.F.Field.lawful x.field) h c.restore.new.rack x.phase x.carried (Refit m) Done done.0
+    called arithmetic valid meaning x (g.met.F.Field.lawful x.field) h c.restore.new.rack x.phase x.carried (Refit m) (Ok Done) done.0
     (refit_does (arithmetic x.field) (scheme_of x.plan) (held_sound arithmetic valid meaning x h) (standing arithmetic valid meaning x) m lm pulled c.settled_kind-kind.result
     c.settled_kind-kind.ensures c.outs-out.result (c.outs-out.ensures h.rack_is_valid) h.kept (sym c.in_default.ensures) (meaning c.fit.new.self)
     (meaning c.restore.new.rack) fit.0.after (done.1 h.order_is))

@@ -2,7 +2,7 @@ use Rattle.std.proofs.Common.{◌≡◌, ℕ, ◌+◌, ◌<◌, ◌≤◌, List,
 use Rattle.std.proofs.lemmas.List.{take_more, take_more_set}
 use Rattle.pool.specs.declared.kinds.Call.{Call}
 use Rattle.pool.specs.declared.kinds.Call.TheVariants.{Read}
-use Rattle.pool.specs.declared.kinds.Answer.{Answer}
+use Rattle.pool.specs.Replies.{Answer}
 use Rattle.pool.specs.Replays.{Replays}
 use Rattle.pool.proofs.Replaying.{none_yet, one_more, take_short, drop_short}
 use Rattle.pool.proofs.pool.Pool.replay.Goals as goal
