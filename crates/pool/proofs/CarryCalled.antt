@@ -19,7 +19,7 @@ use Rattle.layout.specs.declared.refusal.Refusal.TheVariants.{WrongCount}
 use Rattle.pool.specs.Standing.{Standing, out_of, Kept}
 use Rattle.pool.specs.Effects.{changed, carried_symbol, Does}
 use Rattle.pool.specs.declared.load.Load.{Load}
-use Rattle.pool.specs.Growth.{Whole, LoadOf}
+use Rattle.pool.specs.Growth.{Loaded, Whole, LoadOf}
 use Rattle.pool.specs.Pools.{standing, Held, Called}
 use Rattle.pool.proofs.Refusing.{never, passes_under_way}
 use Rattle.pool.proofs.Steps.{does_refused, does_granted}
@@ -124,3 +124,16 @@ module _ {F R : Type 0} (arithmetic : F → Arithmetic) (lawful : (f : F) → La
       (is
       ∙ ap (λ (q : Plan). pair (carried_data (scheme_of q) load.group.index) (carried_parities (scheme_of q))) made.plan_is
       ∙ ap (λ (i : ℕ). pair (carried_data (scheme_of x.plan) i) (carried_parities (scheme_of x.plan))) made.index_is)
+
+  -- the same, where the stripe is carried over a field that is the pool's
+  pub carries_stripe : (f : F) → f ≡ x.field → (load : Load) → Loaded (arithmetic f) load → load.plan ≡ x.plan → load.group.index ≡ x.carried →
+      (rack : R) (counts : ℕ × ℕ) → under_way_refusal x.phase None ≡ None →
+      (valid x.rack → Whole (arithmetic f) (scheme_of load.plan) (meaning x.rack) → valid rack
+      × (meaning rack ≡ changed (meaning x.rack) (carried_symbol (arithmetic f) (scheme_of load.plan) load.group.index (meaning x.rack)))) →
+      counts ≡ (carried_data (scheme_of load.plan) load.group.index, carried_parities (scheme_of load.plan)) →
+      Called arithmetic valid meaning x (record { plan = x.plan; field = x.field; rack = rack; phase = x.phase; carried = x.carried + 1 }) Carry (Ok (Carried counts.0 counts.1))
+  carries_stripe f same load loaded plan_is index_is rack counts under step is =
+      carries_load load (record { loaded = subst (λ (h : F). Loaded (arithmetic h) load) same loaded; plan_is = plan_is; index_is = index_is }) rack counts under
+      (subst (λ (h : F). valid x.rack → Whole (arithmetic h) (scheme_of load.plan) (meaning x.rack) → valid rack
+      × (meaning rack ≡ changed (meaning x.rack) (carried_symbol (arithmetic h) (scheme_of load.plan) load.group.index (meaning x.rack)))) same step)
+      is

@@ -1,7 +1,7 @@
 use Rattle.std.proofs.Common.{refl, sym}
 use Rattle.std.proofs.lemmas.Result.{err_from_is_err_and}
 use Rattle.layout.specs.declared.refusal.Refusal.TheVariants.{WrongCount}
-use Rattle.pool.proofs.CarryCalled.{refuses_phase, refuses_count, carries_load}
+use Rattle.pool.proofs.CarryCalled.{refuses_phase, refuses_count, carries_stripe}
 use Rattle.pool.proofs.pool.Pool.carry_stripe.Goals as goal
 
 pub returns-in_err-under_way : goal.returns-in_err-under_way
@@ -20,5 +20,7 @@ returns-in_default g c =
 pub returns : goal.returns
 returns g c =
     λ held.
-    carries_load g.F.Field.arithmetic g.met.F.Field.lawful g.R.Rack.valid g.R.Rack.meaning c.args.self.now held
-    c.in-Some.load c.in-Some.ensures c.carry_all.new.rack c.counts_of.result (sym c.in_ok-under_way.ensures) c.carry_all.ensures c.counts_of.ensures
+    let s = c.in-Some.stripe in
+    let made = c.in-Some.ensures in
+    carries_stripe g.F.Field.arithmetic g.met.F.Field.lawful g.R.Rack.valid g.R.Rack.meaning c.args.self.now held
+    s.field.now made.0 s.load s.loaded made.1 made.2 c.carry.new.rack c.counts.result (sym c.in_ok-under_way.ensures) c.carry.ensures c.counts.ensures

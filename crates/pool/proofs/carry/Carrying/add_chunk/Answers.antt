@@ -1,0 +1,22 @@
+use Rattle.std.proofs.Common.{get_or, arith}
+use Rattle.layout.proofs.OfPlan as layout
+use Rattle.coding.specs.Schemes.{scheme_of}
+use Rattle.pool.specs.Effects.{chunks_at}
+use Rattle.pool.proofs.Gains.{adds_own}
+use Rattle.pool.proofs.Loading.{row_below, slot_of_lem}
+use Rattle.pool.proofs.carry.Carrying.add_chunk.Goals as goal
+
+pub add_shares-requires : goal.add_shares-requires
+add_shares-requires g c =
+    omega (arith, row_below (g.F.Field.arithmetic c.args.self.now.field.now) c.args.self.now.load c.args.self.now.loaded c.args.e c.requires, layout.rows_le c.args.self.now.load.plan)
+
+pub returns : goal.returns
+returns g c =
+    λ v.
+    let A = g.F.Field.arithmetic c.args.self.now.field.now in
+    let L = g.met.F.Field.lawful c.args.self.now.field.now in
+    let x = c.args.self.now.load in
+    let p = scheme_of x.plan in
+    let e = c.args.e in
+    adds_own A L p x.group.index e (chunks_at p (g.R.Rack.meaning c.args.rack.now) c.args.offset)
+    x.plan.parity2_range.1 (layout.rows_le x.plan) (get_or x.group.slots e 0) (slot_of_lem A x c.args.self.now.loaded e c.requires) c.shares_at-shares.result (c.shares_at-shares.ensures v) c.args.gains c.add_shares.result c.add_shares.ensures
