@@ -1,28 +1,36 @@
 -- The lowest number that passes a test, and a block of places set to 0 slot by slot. Assumes nothing.
-use Rattle.std.proofs.Common.{◌≡◌, ℕ, zero, suc, ◌+◌, ◌<◌, ◌≤◌, Bool, true, false, cond, ◌&&◌, eqb, ltb, Some, None, sym, ap, ◌∙◌, subst, ⊎_elim, not-suc-le-zero, add-one, arith}
+use Rattle.std.proofs.Common.{◌≡◌, ℕ, zero, suc, ◌+◌, ◌<◌, ◌≤◌, Bool, true, false, cond, ◌&&◌, eqb, ltb, Some, None, Option, refl, sym, ap, ◌∙◌, subst, ⊎_elim, not-suc-le-zero, add-one, arith}
 use Rattle.std.proofs.lemmas.Bool.{cases_lt, and_from, lt-ltb, le-leb, cond-true, cond-false}
 use Rattle.std.proofs.lemmas.Bool.Decides.{nat_tests}
+use Rattle.std.specs.Option.{MatchOption}
 use Rattle.rack.specs.Meaning.{Meaning}
 use Rattle.rack.specs.Cleared.{cleared, clears, after_clear}
 use Rattle.pool.specs.Book.{or_last, lowest}
 use Rattle.pool.specs.Blocks.{in_block, zeroed, Blocked}
 use Rattle.pool.proofs.Changed.{same_symbols}
 
--- one more number that does not pass
-pub lowest_more : (f : ℕ → Bool) (n : ℕ) → lowest f n ≡ None → f n ≡ false → lowest f (n + 1) ≡ None
-lowest_more f n e h = rw add-one (ap (λ o. or_last o (f n) n) e ∙ cond-false (f n) (Some n) None h)
+-- no number below n passes
+none_below : (f : ℕ → Bool) (n : ℕ) → ((k : ℕ) → k < n → f k ≡ false) → lowest f n ≡ None
+none_below f zero fails = refl
+none_below f (suc n) fails = ap (λ o. or_last o (f n) n) (none_below f n (λ k l. fails k (omega arith))) ∙ cond-false (f n) (Some n) None (fails n (omega arith))
 
--- the first number that passes is the lowest
-pub lowest_found : (f : ℕ → Bool) (k n : ℕ) → lowest f k ≡ None → f k ≡ true → k < n → lowest f n ≡ Some k
-lowest_found f k zero e h l = absurd (not-suc-le-zero l)
-lowest_found f k (suc n) e h l =
+-- k passes, and none below it
+found_at : (f : ℕ → Bool) (k n : ℕ) → k < n → f k ≡ true → ((j : ℕ) → j < k → f j ≡ false) → lowest f n ≡ Some k
+found_at f k zero l h fails = absurd (not-suc-le-zero l)
+found_at f k (suc n) l h fails =
     ⊎_elim
-    (λ (less : k < n). ap (λ o. or_last o (f n) n) (lowest_found f k n e h less))
+    (λ (less : k < n). ap (λ o. or_last o (f n) n) (found_at f k n less h fails))
     (λ (least : n ≤ k).
     let is : n ≡ k = omega arith in
     let P : ℕ → Type 0 = λ i. or_last (lowest f i) (f i) i ≡ Some k in
-    subst P (sym is) (ap (λ o. or_last o (f k) k) e ∙ cond-true (f k) (Some k) None h))
+    subst P (sym is) (ap (λ o. or_last o (f k) k) (none_below f k fails) ∙ cond-true (f k) (Some k) None h))
     (cases_lt k n)
+
+-- what `find` over the numbers below n answers is the lowest that passes
+pub lowest_is : (f : ℕ → Bool) (n : ℕ) (r : Option ℕ) →
+    MatchOption r ((k : ℕ) → 0 ≤ k → k < n → f k ≡ false) (λ i. (0 ≤ i) × (i < n) × (f i ≡ true) × ((k : ℕ) → 0 ≤ k → k < i → f k ≡ false)) → r ≡ lowest f n
+lowest_is f n None fails = sym (none_below f n (λ k l. fails k (omega arith) l))
+lowest_is f n (Some k) h = sym (found_at f k n h.1 h.2 (λ j l. h.3 j (omega arith) l))
 
 no_slot_point : (m m' s n i slot u x : ℕ) → x ≡ cond (in_block m m' s s n i slot u) 0 x
 no_slot_point m m' s n i slot u x = grind (arith, nat_tests)

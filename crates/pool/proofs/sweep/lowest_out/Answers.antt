@@ -1,27 +1,15 @@
-use Rattle.std.proofs.Common.{◌≡◌, ℕ, Bool, true, false, not, sym, ap, ◌∙◌, arith}
-use Rattle.pool.specs.Book.{lowest}
-use Rattle.pool.proofs.Asking.{asked_out}
-use Rattle.pool.proofs.Sweeps.{lowest_more, lowest_found}
+use Rattle.std.proofs.Common.{◌≡◌, ℕ, Bool, true, false, not, refl, sym, ap, ◌∙◌, rules}
+use Rattle.std.proofs.lemmas.Iterator.{first_from_Range}
+use Rattle.rack.specs.Meaning.{pulls}
+use Rattle.pool.proofs.Asking.{asked}
+use Rattle.pool.proofs.Sweeps.{lowest_is}
 use Rattle.pool.proofs.sweep.lowest_out.Goals as goal
-
-pub loop-module-preserved : goal.loop-module-preserved
-loop-module-preserved g c h =
-    let w = g.R.Rack.meaning c.args.rack.now in
-    let out : ℕ → Bool = λ m. not (w.fitted m) in
-    lowest_more out c.loop-module.module (c.loop-module.invariant h)
-    (asked_out w (g.R.Rack.bounded c.args.rack.now h) c.loop-module.module true (c.if-not-ask.ensures h))
-
-pub returns-then-not-ask : goal.returns-then-not-ask
-returns-then-not-ask g c h =
-    let w = g.R.Rack.meaning c.args.rack.now in
-    let out : ℕ → Bool = λ m. not (w.fitted m) in
-    sym
-    (lowest_found out c.loop-module.module c.args.modules (c.loop-module.invariant h)
-    (asked_out w (g.R.Rack.bounded c.args.rack.now h) c.loop-module.module false (c.if-not-ask.ensures h)) c.loop-module-test.true)
 
 pub returns : goal.returns
 returns g c h =
     let w = g.R.Rack.meaning c.args.rack.now in
     let out : ℕ → Bool = λ m. not (w.fitted m) in
-    let n : c.loop-module.module ≡ c.args.modules = omega arith in
-    sym (ap (lowest out) (sym n) ∙ c.loop-module.invariant h)
+    let same : (m : ℕ) → not (pulls w m) ≡ out m = λ m. ap not (asked w (g.R.Rack.bounded c.args.rack.now h) m) in
+    lowest_is out c.args.modules c.find.result
+    (first_from_Range _ _ _ c.find.result (λ m. out m ≡ true) (λ m. out m ≡ false) c.find.ensures.ran
+    (λ m q k. let e : true ≡ not (pulls w m) = search rules in sym (e ∙ same m)) (λ m q k. (search rules, let e : false ≡ not (pulls w m) = search rules in sym (e ∙ same m))))
