@@ -10,20 +10,6 @@ use crate::pool::Pool;
 use field::Field;
 use rack::rack::Rack;
 
-/// How many of the calls there is room to answer.
-fn room_for(calls: &[Call], told: &[Answer]) -> usize
-    ensures within { result ≤ length calls.now }
-    ensures room { result ≤ length told.now }
-    ensures full { result < length calls.now → length told.now ≤ result }
-    ensures all { result < length told.now → length calls.now ≤ result }
-{
-    if calls.len() < told.len() {
-        calls.len()
-    } else {
-        told.len()
-    }
-}
-
 impl<F: Field, R: Rack> Pool<F, R> {
     /// Begins the changeover, and ends its order.
     fn begin_told(&mut self) -> Answer
@@ -108,8 +94,9 @@ impl<F: Field, R: Rack> Pool<F, R> {
         ensures rest { drop (length calls.now) told.new ≡ drop (length calls.now) told.old }
         ensures long { length told.new ≡ length told.old }
     {
-        for i in 0..room_for(calls, told) {
-            told[i] = self.perform(calls[i]);
+        let count = calls.len().min(told.len());
+        for (i, call) in calls[..count].iter().enumerate() {
+            told[i] = self.perform(*call);
         }
     }
 }
