@@ -28,9 +28,9 @@ found_at f k (suc n) l h fails =
 
 -- what `find` over the numbers below n answers is the lowest that passes
 pub lowest_is : (f : ℕ → Bool) (n : ℕ) (r : Option ℕ) →
-    MatchOption r ((k : ℕ) → 0 ≤ k → k < n → f k ≡ false) (λ i. (0 ≤ i) × (i < n) × (f i ≡ true) × ((k : ℕ) → 0 ≤ k → k < i → f k ≡ false)) → r ≡ lowest f n
-lowest_is f n None fails = sym (none_below f n (λ k l. fails k (omega arith) l))
-lowest_is f n (Some k) h = sym (found_at f k n h.1 h.2 (λ j l. h.3 j (omega arith) l))
+    MatchOption r ((k : ℕ) → 0 ≤ k → k < n → k < n → f k ≡ false) (λ i. (0 ≤ i) × (i < n) × (i < n → f i ≡ true) × ((k : ℕ) → 0 ≤ k → k < i → k < n → f k ≡ false)) → r ≡ lowest f n
+lowest_is f n None fails = sym (none_below f n (λ k l. fails k (omega arith) l l))
+lowest_is f n (Some k) h = sym (found_at f k n h.1 (h.2 h.1) (λ j l. h.3 j (omega arith) l (omega (arith, l, h.1))))
 
 no_slot_point : (m m' s n i slot u x : ℕ) → x ≡ cond (in_block m m' s s n i slot u) 0 x
 no_slot_point m m' s n i slot u x = grind (arith, nat_tests)

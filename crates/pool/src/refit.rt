@@ -58,61 +58,6 @@ fn parity_on(group: &Group, module: u16) -> Option<u8>
     }
 }
 
-/// Whether a group that is there has a piece on a module.
-fn has_piece(plan: &Plan, kind: Kind, index: u16, module: u16) -> bool
-    ensures { index < groups (scheme_of plan.now) kind → result ≡ holds_piece (scheme_of plan.now) kind «module» index }
-{
-    match Group::of(plan, kind, index) {
-        Some(group) => has_chunk(&group, module) || parity_on(&group, module).is_some(),
-        None => false,
-    }
-}
-
-/// Whether a group that is there has a piece on a module, and misses more pieces than it has parities.
-fn cannot_restore(plan: &Plan, kind: Kind, index: u16, module: u16, out: [bool; 32]) -> bool
-    ensures { index < groups (scheme_of plan.now) kind → result ≡ (holds_piece (scheme_of plan.now) kind «module» index && beyond (scheme_of plan.now) kind (flags out) index) }
-{
-    has_piece(plan, kind, index, module) && is_beyond(plan, kind, index, out)
-}
-
-/// The lowest group that has a piece on a module, and misses more pieces than it has parities.
-fn first_beyond(plan: &Plan, kind: Kind, module: u16, out: [bool; 32]) -> Option<u16>
-    ensures { result ≡ lowest (λ i. holds_piece (scheme_of plan.now) kind «module» i && beyond (scheme_of plan.now) kind (flags out) i) (groups (scheme_of plan.now) kind) }
-{
-    for i in 0..groups_of(plan, kind) {
-        if cannot_restore(plan, kind, i, module, out) {
-            return Some(i);
-        }
-    }
-    None
-}
-
-/// Puts one chunk of a group back where it is on a module.
-fn put_chunk<R: Rack>(
-    rack: &mut R,
-    group: &Group,
-    module: u16,
-    offset: u16,
-    e: usize,
-    chunks: [u16; 14],
-)
-    requires { e < 14 }
-    ensures { R.valid rack.old → R.valid rack.new × (R.meaning rack.new ≡ chunk_put group.now «module» offset e chunks (R.meaning rack.old)) }
-{
-    if e < group.size as usize && group.modules[e] == module {
-        let _ = rack.put(module, group.slots[e], offset, chunks[e]);
-    }
-}
-
-/// Puts the chunks of a group that are on a module back, at one offset.
-fn put_chunks<R: Rack>(rack: &mut R, group: &Group, module: u16, offset: u16, chunks: [u16; 14])
-    ensures { R.valid rack.old → R.valid rack.new × PutsChunks group.now «module» offset chunks 14 (R.meaning rack.old) (R.meaning rack.new) }
-{
-    for e in 0..14 {
-        put_chunk(rack, group, module, offset, e, chunks);
-    }
-}
-
 /// The coefficients of a group's chunks in its parity on a module, if it has one there.
 fn weights_on<F: Field>(field: &F, group: &Group, module: u16) -> Option<[u16; 14]>
     ensures { WeightsOn (F.arithmetic field.now) group.now «module» result }
@@ -121,89 +66,135 @@ fn weights_on<F: Field>(field: &F, group: &Group, module: u16) -> Option<[u16; 1
     Some(weights(field, group, k))
 }
 
-/// Puts the parity of a group that is on a module back, at one offset. `weights` has its coefficients.
-fn put_parity<F: Field, R: Rack>(
-    field: &F,
-    rack: &mut R,
-    group: &Group,
+/// A group whose pieces on a module are rebuilt.
+#[derive(Drop)]
+struct Restoring<'a, F: Field> {
+    field: &'a F,
+    repair: Repair,
     module: u16,
-    offset: u16,
-    weights: Option<[u16; 14]>,
-    chunks: [u16; 14],
-)
-    requires { WeightsOn (F.arithmetic field.now) group.now «module» weights }
-    ensures { R.valid rack.old → R.valid rack.new × PutsParity (F.arithmetic field.now) group.now «module» offset chunks (R.meaning rack.old) (R.meaning rack.new) }
-{
-    if let Some(weights) = weights {
-        let _ = rack.put(
-            module,
-            group.slot,
-            offset,
-            parity_of(field, weights, chunks),
-        );
+}
+
+impl<F: Field> Restoring<'_, F> {
+    /// Puts one chunk of the group back where it is on the module.
+    fn put_chunk<R: Rack>(&self, rack: &mut R, offset: u16, e: usize, chunks: [u16; 14])
+        requires { e < 14 }
+        ensures { R.valid rack.old → R.valid rack.new × (R.meaning rack.new ≡ chunk_put self.now.repair.group self.now.«module» offset e chunks (R.meaning rack.old)) }
+    {
+        let group = &self.repair.group;
+        if e < group.size as usize && group.modules[e] == self.module {
+            let _ = rack.put(self.module, group.slots[e], offset, chunks[e]);
+        }
     }
-}
 
-/// Rebuilds the pieces of a group that are on a module, at one offset. Each symbol is fetched once. `weights` has the
-/// coefficients of the group's parity on the module.
-fn restore_at<F: Field, R: Rack>(
-    field: &F,
-    rack: &mut R,
-    repair: &Repair,
-    module: u16,
-    offset: u16,
-    weights: Option<[u16; 14]>,
-)
-    requires { WeightsOn (F.arithmetic field.now) repair.now.group «module» weights }
-    ensures { R.valid rack.old → R.valid rack.new × PutsBack (F.arithmetic field.now) repair.now «module» offset (R.meaning rack.old) (R.meaning rack.new) }
-{
-    let chunks = repair.chunks_at(field, rack, offset);
-    put_chunks(rack, &repair.group, module, offset, chunks);
-    put_parity(field, rack, &repair.group, module, offset, weights, chunks);
-}
-
-/// Rebuilds the pieces of a group that are on a module, at the offsets below `len`.
-fn restore_group<F: Field, R: Rack>(field: &F, rack: &mut R, repair: &Repair, module: u16, len: u16)
-    ensures { R.valid rack.old → R.valid rack.new × Goes (F.arithmetic field.now) repair.now «module» len (R.meaning rack.old) (R.meaning rack.new) }
-{
-    let weights = weights_on(field, &repair.group, module);
-    for offset in 0..len {
-        restore_at(field, rack, repair, module, offset, weights);
+    /// Puts the chunks of the group that are on the module back, at one offset.
+    fn put_chunks<R: Rack>(&self, rack: &mut R, offset: u16, chunks: [u16; 14])
+        ensures { R.valid rack.old → R.valid rack.new × PutsChunks self.now.repair.group self.now.«module» offset chunks 14 (R.meaning rack.old) (R.meaning rack.new) }
+    {
+        for e in 0..14 {
+            self.put_chunk(rack, offset, e, chunks);
+        }
     }
-}
 
-/// Rebuilds the pieces of a group that are on a module, if there are any. `out` tells the modules that count as out.
-fn restore_one<F: Field, R: Rack>(
-    plan: &Plan,
-    field: &F,
-    rack: &mut R,
-    kind: Kind,
-    index: u16,
-    module: u16,
-    out: [bool; 32],
-)
-    ensures { R.valid rack.old → R.valid rack.new × ((F.arithmetic field.now).order ≡ plan.now.order → Goes_on (F.arithmetic field.now) (scheme_of plan.now) kind (flags out) «module» index (R.meaning rack.old) (R.meaning rack.new)) }
-{
-    if has_piece(plan, kind, index, module) {
-        if let Ok(repair) = prepare(plan, field, kind, index, out) {
-            restore_group(field, rack, &repair, module, plan.len);
+    /// Puts the parity of the group that is on the module back, at one offset. `weights` has its coefficients.
+    fn put_parity<R: Rack>(
+        &self,
+        rack: &mut R,
+        offset: u16,
+        weights: Option<[u16; 14]>,
+        chunks: [u16; 14],
+    )
+        requires { WeightsOn (F.arithmetic self.now.field.now) self.now.repair.group self.now.«module» weights }
+        ensures { R.valid rack.old → R.valid rack.new × PutsParity (F.arithmetic self.now.field.now) self.now.repair.group self.now.«module» offset chunks (R.meaning rack.old) (R.meaning rack.new) }
+    {
+        if let Some(weights) = weights {
+            let symbol = parity_of(self.field, weights, chunks);
+            let _ = rack.put(self.module, self.repair.group.slot, offset, symbol);
+        }
+    }
+
+    /// Rebuilds the pieces of the group that are on the module, at one offset. Each symbol is fetched once. `weights` has the
+    /// coefficients of the group's parity on the module.
+    fn restore_at<R: Rack>(&self, rack: &mut R, offset: u16, weights: Option<[u16; 14]>)
+        requires { WeightsOn (F.arithmetic self.now.field.now) self.now.repair.group self.now.«module» weights }
+        ensures { R.valid rack.old → R.valid rack.new × PutsBack (F.arithmetic self.now.field.now) self.now.repair self.now.«module» offset (R.meaning rack.old) (R.meaning rack.new) }
+    {
+        let chunks = self.repair.chunks_at(self.field, rack, offset);
+        self.put_chunks(rack, offset, chunks);
+        self.put_parity(rack, offset, weights, chunks);
+    }
+
+    /// Rebuilds the pieces of the group that are on the module, at the offsets below `len`.
+    fn restore<R: Rack>(&self, rack: &mut R, len: u16)
+        ensures { R.valid rack.old → R.valid rack.new × Goes (F.arithmetic self.now.field.now) self.now.repair self.now.«module» len (R.meaning rack.old) (R.meaning rack.new) }
+    {
+        let weights = weights_on(self.field, &self.repair.group, self.module);
+        for offset in 0..len {
+            self.restore_at(rack, offset, weights);
         }
     }
 }
 
-/// Rebuilds the pieces of all groups of a kind that are on a module. `out` tells the modules that count as out.
-fn restore<F: Field, R: Rack>(
-    plan: &Plan,
-    field: &F,
-    rack: &mut R,
+/// A module that is fitted again: the kind of its settled groups, and the modules that count as out.
+#[derive(Drop)]
+struct Refitting<'a, F: Field> {
+    plan: Plan,
+    field: &'a F,
     kind: Kind,
     module: u16,
     out: [bool; 32],
-)
-    ensures { R.valid rack.old → R.valid rack.new × ((F.arithmetic field.now).order ≡ plan.now.order → GoesThrough (F.arithmetic field.now) (scheme_of plan.now) kind (flags out) «module» (groups (scheme_of plan.now) kind) (R.meaning rack.old) (R.meaning rack.new)) }
-{
-    for i in 0..groups_of(plan, kind) {
-        restore_one(plan, field, rack, kind, i, module, out);
+}
+
+impl<F: Field> Refitting<'_, F> {
+    /// Whether a group that is there has a piece on the module.
+    fn has_piece(&self, index: u16) -> bool
+        ensures { index < groups (scheme_of self.now.plan) self.now.kind → result ≡ holds_piece (scheme_of self.now.plan) self.now.kind self.now.«module» index }
+    {
+        match Group::of(&self.plan, self.kind, index) {
+            Some(group) => {
+                has_chunk(&group, self.module) || parity_on(&group, self.module).is_some()
+            }
+            None => false,
+        }
+    }
+
+    /// Whether a group that is there has a piece on the module, and misses more pieces than it has parities.
+    fn cannot_restore(&self, index: u16) -> bool
+        ensures { index < groups (scheme_of self.now.plan) self.now.kind → result ≡ (holds_piece (scheme_of self.now.plan) self.now.kind self.now.«module» index && beyond (scheme_of self.now.plan) self.now.kind (flags self.now.out) index) }
+    {
+        self.has_piece(index) && is_beyond(&self.plan, self.kind, index, self.out)
+    }
+
+    /// The lowest group that has a piece on the module, and misses more pieces than it has parities.
+    fn first_beyond(&self) -> Option<u16>
+        ensures { result ≡ lowest (λ i. holds_piece (scheme_of self.now.plan) self.now.kind self.now.«module» i && beyond (scheme_of self.now.plan) self.now.kind (flags self.now.out) i) (groups (scheme_of self.now.plan) self.now.kind) }
+    {
+        (0..groups_of(&self.plan, self.kind)).find(|index| self.cannot_restore(*index))
+    }
+
+    /// Rebuilds the pieces of a group that are on the module, if there are any.
+    fn restore_group<R: Rack>(&self, rack: &mut R, index: u16)
+        ensures { R.valid rack.old → R.valid rack.new × ((F.arithmetic self.now.field.now).order ≡ self.now.plan.order → Goes_on (F.arithmetic self.now.field.now) (scheme_of self.now.plan) self.now.kind (flags self.now.out) self.now.«module» index (R.meaning rack.old) (R.meaning rack.new)) }
+    {
+        if !self.has_piece(index) {
+            return;
+        }
+        if let Ok(repair) = prepare(&self.plan, self.field, self.kind, index, self.out) {
+            let group = Restoring {
+                field: self.field,
+                repair,
+                module: self.module,
+            };
+            group.restore(rack, self.plan.len);
+        }
+    }
+
+    /// Rebuilds the pieces of all groups that are on the module.
+    fn restore<R: Rack>(&self, rack: &mut R)
+        ensures { R.valid rack.old → R.valid rack.new × ((F.arithmetic self.now.field.now).order ≡ self.now.plan.order → GoesThrough (F.arithmetic self.now.field.now) (scheme_of self.now.plan) self.now.kind (flags self.now.out) self.now.«module» (groups (scheme_of self.now.plan) self.now.kind) (R.meaning rack.old) (R.meaning rack.new)) }
+    {
+        for index in 0..groups_of(&self.plan, self.kind) {
+            self.restore_group(rack, index);
+        }
     }
 }
 
@@ -219,13 +210,18 @@ impl<F: Field, R: Rack> Pool<F, R> {
         if self.rack.ask(module) {
             return Err(Refusal::AlreadySo(module));
         }
-        let out = outs(&self.rack, &self.plan);
-        let kind = settled_kind(self.phase);
-        if let Some(i) = first_beyond(&self.plan, kind, module, out) {
+        let refitting = Refitting {
+            plan: self.plan,
+            field: &self.field,
+            kind: settled_kind(self.phase),
+            module,
+            out: outs(&self.rack, &self.plan),
+        };
+        if let Some(i) = refitting.first_beyond() {
             return Err(Refusal::BeyondRepair(i));
         }
         let _ = self.rack.fit(module);
-        restore(&self.plan, &self.field, &mut self.rack, kind, module, out);
+        refitting.restore(&mut self.rack);
         Ok(())
     }
 }

@@ -2,7 +2,6 @@
 ghost use Rattle.std.specs.Prelude.{◌≡◌, ◌+◌, not};
 ghost use Rattle.pool.specs.Blocks.{Blocked, zeroed};
 ghost use Rattle.pool.specs.Book.{lowest};
-ghost use Rattle.rack.specs.Meaning.{pulls};
 
 use rack::clear_slot;
 use rack::rack::Rack;
@@ -11,11 +10,7 @@ use rack::rack::Rack;
 pub(crate) fn lowest_out<R: Rack>(rack: &R, modules: u16) -> Option<u16>
     ensures { R.valid rack.now → result ≡ lowest (λ m. not ((R.meaning rack.now).fitted m)) modules }
 {
-    (0..modules).find(
-        |module: &u16| -> bool
-            ensures { R.valid rack.entry.now → result ≡ not (pulls (R.meaning rack.entry.now) («module».entry.now)) }
-        { !rack.ask(*module) },
-    )
+    (0..modules).find(|module| !rack.ask(*module))
 }
 
 /// Puts 0 at the offsets below `until` of some slots of a module.

@@ -1,7 +1,7 @@
 use Rattle.std.proofs.Common.{◌≡◌, ℕ, subst, arith}
 use Rattle.pool.specs.Restored.{Goes}
 use Rattle.pool.proofs.Going.{going_space, going_order, going_on}
-use Rattle.pool.proofs.refit.restore_group.Goals as goal
+use Rattle.pool.proofs.refit.Restoring.restore.Goals as goal
 
 pub loop-offset-init : goal.loop-offset-init
 loop-offset-init g c = λ h. (h, λ p t i out was ready room lo holds going. going)
@@ -9,8 +9,8 @@ loop-offset-init g c = λ h. (h, λ p t i out was ready room lo holds going. goi
 pub loop-offset-preserved : goal.loop-offset-preserved
 loop-offset-preserved g c =
     λ h.
-    let A = g.F.Field.arithmetic c.args.field.now in
-    let m = c.args.module in
+    let A = g.F.Field.arithmetic c.args.self.now.field.now in
+    let m = c.args.self.now.module in
     let o = c.loop-offset.offset in
     let w1 = g.R.Rack.meaning c.loop-offset.rack in
     let w2 = g.R.Rack.meaning c.restore_at.new.rack in
@@ -28,4 +28,4 @@ returns g c =
     λ h.
     let inv = c.loop-offset.invariant h in
     let e : c.loop-offset.offset ≡ c.args.len = omega arith in
-    (inv.0, subst (λ (n : ℕ). Goes (g.F.Field.arithmetic c.args.field.now) c.args.repair.now c.args.module n (g.R.Rack.meaning c.args.rack.now) (g.R.Rack.meaning c.loop-offset.rack)) e inv.1)
+    (inv.0, subst (λ (n : ℕ). Goes (g.F.Field.arithmetic c.args.self.now.field.now) c.args.self.now.repair c.args.self.now.module n (g.R.Rack.meaning c.args.rack.now) (g.R.Rack.meaning c.loop-offset.rack)) e inv.1)

@@ -2,20 +2,20 @@ use Rattle.std.proofs.Common.{get_or, ap, ◌∙◌}
 use Rattle.rack.specs.Meaning.{Meaning}
 use Rattle.coding.specs.Groups.{index_of}
 use Rattle.pool.proofs.Putting.{word_are, word_codes, put_back, same_space}
-use Rattle.pool.proofs.refit.restore_at.Goals as goal
+use Rattle.pool.proofs.refit.Restoring.restore_at.Goals as goal
 
 pub returns : goal.returns
 returns g c =
     λ h.
-    let A = g.F.Field.arithmetic c.args.field.now in
-    let L = g.met.F.Field.lawful c.args.field.now in
-    let m = c.args.module in
+    let A = g.F.Field.arithmetic c.args.self.now.field.now in
+    let L = g.met.F.Field.lawful c.args.self.now.field.now in
+    let m = c.args.self.now.module in
     let u = c.args.offset in
     let w = g.R.Rack.meaning c.args.rack.now in
     let w1 = g.R.Rack.meaning c.put_chunks.new.rack in
     let w2 = g.R.Rack.meaning c.put_parity.new.rack in
     let a = c.chunks_at-chunks.result in
-    let s = c.args.repair.now in
+    let s = c.args.self.now.repair in
     let one = c.put_chunks.ensures h in
     let two = c.put_parity.ensures one.0 in (
       two.0,

@@ -1,8 +1,0 @@
-use Rattle.pool.specs.Restored.{PutsChunks}
-use Rattle.pool.proofs.refit.put_chunks.Given as goal
-
-abbrev pub invariant-loop-e : goal.invariant-loop-e
-invariant-loop-e g l =
-    g.R.Rack.valid l.initial.rack
-    → g.R.Rack.valid l.rack
-    × PutsChunks l.group l.module l.offset l.chunks l.e (g.R.Rack.meaning l.initial.rack) (g.R.Rack.meaning l.rack)
