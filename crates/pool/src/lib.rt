@@ -17,4 +17,5 @@ pub mod refit;
 pub mod replay;
 pub mod run;
 mod sweep;
+mod word;
 pub mod words;

@@ -1,7 +1,6 @@
 // Reading and writing a word.
-ghost use Rattle.std.specs.Prelude.{◌≡◌, ◌<◌, false, Some, Ok};
+ghost use Rattle.std.specs.Prelude.{◌≡◌, ◌<◌, false, Ok};
 ghost use Rattle.coding.specs.Schemes.{scheme_of};
-ghost use Rattle.layout.specs.Places.{CellOf};
 ghost use Rattle.pool.specs.Effects.{is_staged};
 ghost use Rattle.pool.specs.Pools.{Held, Obeys, standing};
 ghost use Rattle.pool.specs.Results.{of_done, of_symbol};
@@ -10,10 +9,11 @@ ghost use Rattle.pool.specs.WordSteps.{Looked};
 ghost use Rattle.pool.specs.declared.kinds.Call.TheVariants.{Read, Write};
 
 use crate::adding::{Parities, add_parities, shares_of};
-use crate::groups::{group_of, index_of, parity_count, parity_slot, settled_kind};
+use crate::groups::{parity_count, parity_slot, settled_kind};
 use crate::kinds::Phase;
 use crate::outs::outs;
 use crate::pool::Pool;
+use crate::word::Word;
 use coding::prepare::prepare;
 use field::Field;
 use layout::plan::Cell;
@@ -38,33 +38,33 @@ pub(crate) fn symbol_at<R: Rack>(rack: &R, module: u16, slot: u16, offset: u16) 
 
 impl<F: Field, R: Rack> Pool<F, R> {
     /// Looks up a word whose module is out, from the first pieces that are left of its settled group.
-    fn rebuild_word(&self, chunk: u16, cell: Cell, offset: u16) -> Result<Found, Refusal>
-        requires { CellOf self.now.plan.d self.now.plan.d2 chunk (Some cell) }
-        ensures { Held F.arithmetic R.valid R.meaning self.now → (R.meaning self.now.rack).fitted cell.column ≡ false → Looked (F.arithmetic self.now.field) (scheme_of self.now.plan) (standing F.arithmetic R.valid R.meaning self.now) chunk offset result }
+    fn rebuild_word(&self, word: Word) -> Result<Found, Refusal>
+        requires { word.plan ≡ self.now.plan }
+        ensures { Held F.arithmetic R.valid R.meaning self.now → (R.meaning self.now.rack).fitted word.cell.column ≡ false → Looked (F.arithmetic self.now.field) (scheme_of word.plan) (standing F.arithmetic R.valid R.meaning self.now) word.chunk word.offset result }
     {
         let kind = settled_kind(self.phase);
-        let index = group_of(&self.plan, kind, chunk, cell);
-        let out = outs(&self.rack, &self.plan);
-        let repair = prepare(&self.plan, &self.field, kind, index, out)?;
-        let pieces = repair.pieces_at(&self.field, &self.rack, offset);
+        let out = outs(&self.rack, &word.plan);
+        let repair = prepare(&word.plan, &self.field, kind, word.group(kind), out)?;
+        let pieces = repair.pieces_at(&self.field, &self.rack, word.offset);
         Ok(Found {
-            symbol: pieces.chunks[index_of(&self.plan, kind, chunk, cell)],
+            symbol: pieces.chunks[word.index(kind)],
             parities: pieces.parities,
         })
     }
 
     /// Looks up a word: the symbol in the rack, or where its module is out, that which is rebuilt.
-    fn find_word(&self, chunk: u16, cell: Cell, offset: u16) -> Result<Found, Refusal>
-        requires { CellOf self.now.plan.d self.now.plan.d2 chunk (Some cell) }
-        ensures { Held F.arithmetic R.valid R.meaning self.now → Looked (F.arithmetic self.now.field) (scheme_of self.now.plan) (standing F.arithmetic R.valid R.meaning self.now) chunk offset result }
+    fn find_word(&self, word: Word) -> Result<Found, Refusal>
+        requires { word.plan ≡ self.now.plan }
+        ensures { Held F.arithmetic R.valid R.meaning self.now → Looked (F.arithmetic self.now.field) (scheme_of word.plan) (standing F.arithmetic R.valid R.meaning self.now) word.chunk word.offset result }
     {
-        if self.rack.ask(cell.column) {
+        let Cell { row, column, .. } = word.cell;
+        if self.rack.ask(column) {
             return Ok(Found {
-                symbol: symbol_at(&self.rack, cell.column, cell.row, offset),
+                symbol: symbol_at(&self.rack, column, row, word.offset),
                 parities: [None; 4],
             });
         }
-        self.rebuild_word(chunk, cell, offset)
+        self.rebuild_word(word)
     }
 
     /// Reads a word. Refused where there is no such chunk or offset, and where the chunk's module is out and its stripe, or
@@ -72,50 +72,47 @@ impl<F: Field, R: Rack> Pool<F, R> {
     pub fn read(&self, chunk: u16, offset: u16) -> Result<u16, Refusal>
         ensures { Obeys F.arithmetic R.valid R.meaning self.now self.now (Read chunk offset) (of_symbol result) }
     {
-        let Some(cell) = self.plan.cell(chunk) else {
-            return Err(Refusal::NoWord(1));
-        };
-        if offset >= self.plan.len {
-            return Err(Refusal::NoWord(2));
-        }
-        let found = self.find_word(chunk, cell, offset)?;
+        let word = Word::of(&self.plan, chunk, offset)?;
+        let found = self.find_word(word)?;
         Ok(found.symbol)
     }
 
-    /// Whether the changeover is under way and the chunk's stripe is carried.
-    fn is_staged(&self, chunk: u16) -> bool
-        ensures { result ≡ is_staged self.now.phase self.now.carried (scheme_of self.now.plan) chunk }
+    /// Whether the changeover is under way and the stripe of the word's chunk is carried.
+    fn is_staged(&self, word: Word) -> bool
+        ensures { result ≡ is_staged self.now.phase self.now.carried (scheme_of word.plan) word.chunk }
     {
         match self.phase {
-            Phase::UnderWay => chunk / self.plan.d < self.carried,
+            Phase::UnderWay => word.chunk / word.plan.d < self.carried,
             Phase::Before | Phase::Voided | Phase::After => false,
         }
     }
 
     /// Stores the symbol of a word over its old one: in the rack, where its module is fitted, and in the settled parities, and
     /// the staged ones if there are any, of its chunk. Each parity is fetched once.
-    fn store_word(&mut self, chunk: u16, cell: Cell, offset: u16, symbol: u16, old: Found)
-        requires { CellOf self.old.plan.d self.old.plan.d2 chunk (Some cell) }
-        ensures { Held F.arithmetic R.valid R.meaning self.old → offset < self.old.plan.len → symbol < (F.arithmetic self.old.field).order → Looked (F.arithmetic self.old.field) (scheme_of self.old.plan) (standing F.arithmetic R.valid R.meaning self.old) chunk offset (Ok old) → Wrote F.arithmetic R.valid R.meaning self.old self.new chunk offset symbol old.symbol }
+    fn store_word(&mut self, word: Word, symbol: u16, old: Found)
+        requires { word.plan ≡ self.old.plan }
+        ensures { Held F.arithmetic R.valid R.meaning self.old → symbol < (F.arithmetic self.old.field).order → Looked (F.arithmetic self.old.field) (scheme_of word.plan) (standing F.arithmetic R.valid R.meaning self.old) word.chunk word.offset (Ok old) → Wrote F.arithmetic R.valid R.meaning self.old self.new word.chunk word.offset symbol old.symbol }
     {
+        let Word {
+            plan, cell, offset, ..
+        } = word;
         let kind = settled_kind(self.phase);
-        let index = group_of(&self.plan, kind, chunk, cell);
         let fetched = old.parities;
         let settled = Parities {
-            first: self.plan.d2,
-            slot: parity_slot(&self.plan, kind, index),
-            count: parity_count(&self.plan, kind),
+            first: plan.d2,
+            slot: parity_slot(&plan, kind, word.group(kind)),
+            count: parity_count(&plan, kind),
             fetched,
         };
         let change = self.field.sub(symbol, old.symbol);
         let shares = shares_of(&self.field, cell.x as u8, change);
         let _ = self.rack.put(cell.column, cell.row, offset, symbol);
         add_parities(&mut self.rack, &self.field, settled, offset, shares);
-        if self.is_staged(chunk) {
+        if self.is_staged(word) {
             let staged = Parities {
-                first: self.plan.d2,
-                slot: self.plan.stripes() + cell.row,
-                count: self.plan.r2,
+                first: plan.d2,
+                slot: plan.stripes() + cell.row,
+                count: plan.r2,
                 fetched: [None; 4],
             };
             add_parities(&mut self.rack, &self.field, staged, offset, shares);
@@ -127,17 +124,12 @@ impl<F: Field, R: Rack> Pool<F, R> {
     pub fn write(&mut self, chunk: u16, offset: u16, symbol: u16) -> Result<(), Refusal>
         ensures { Obeys F.arithmetic R.valid R.meaning self.old self.new (Write chunk offset symbol) (of_done result) }
     {
-        let Some(cell) = self.plan.cell(chunk) else {
-            return Err(Refusal::NoWord(1));
-        };
-        if offset >= self.plan.len {
-            return Err(Refusal::NoWord(2));
-        }
+        let word = Word::of(&self.plan, chunk, offset)?;
         if symbol >= self.field.order() {
             return Err(Refusal::NoSymbol(symbol));
         }
-        let old = self.find_word(chunk, cell, offset)?;
-        self.store_word(chunk, cell, offset, symbol, old);
+        let old = self.find_word(word)?;
+        self.store_word(word, symbol, old);
         Ok(())
     }
 }
