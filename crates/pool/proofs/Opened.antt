@@ -13,12 +13,12 @@ use Rattle.coding.proofs.OfPlan as plan
 use Rattle.pool.specs.declared.kinds.Phase.{Phase}
 use Rattle.pool.specs.declared.kinds.Phase.TheVariants.{Before, UnderWay}
 use Rattle.pool.specs.declared.pool.Pool.{Pool}
-use Rattle.pool.specs.Book.{lowest, blank}
+use Rattle.pool.specs.Book.{lowest, blank, opened_phase}
 use Rattle.pool.specs.Standing.{Standing, Kept}
 use Rattle.pool.specs.Agrees.{Agrees}
 use Rattle.pool.specs.Blocks.{in_block, zeroed, Blocked}
 use Rattle.pool.specs.Pools.{standing, Held}
-use Rattle.pool.specs.Openings.{or_else, misfit, fit_refusal, lay_refusal, open_refusal, laid_over, opened_phase}
+use Rattle.pool.specs.Openings.{or_else, misfit, fit_refusal, lay_refusal, open_refusal, laid_over}
 use Rattle.pool.proofs.Refusing.{never, lowest_none, passes, passes_at}
 use Rattle.pool.proofs.Laying.{laid}
 

@@ -34,6 +34,11 @@ phase_number UnderWay = 1
 phase_number Voided = 2
 phase_number After = 3
 
+-- the phase of a pool that is opened by a label: the flag says whether it is after its changeover
+abbrev pub opened_phase : Bool → Phase
+opened_phase true = After
+opened_phase false = Before
+
 -- the groups whose parities are settled, so that pieces are rebuilt from them: the rows after the changeover, else the stripes
 abbrev pub settled : Phase → Kind
 settled Before = Stripe

@@ -10,7 +10,7 @@ use Rattle.pool.specs.declared.kinds.Phase.{Phase}
 use Rattle.pool.specs.declared.kinds.Phase.TheVariants.{Before, UnderWay, Voided, After}
 use Rattle.pool.specs.declared.pool.Pool.{Pool}
 use Rattle.layout.specs.declared.refusal.Refusal.TheVariants.{DoesNotFit, ModuleOut}
-use Rattle.pool.specs.Book.{lowest, refuse_if, refuse_at}
+use Rattle.pool.specs.Book.{lowest, opened_phase, refuse_if, refuse_at}
 use Rattle.pool.specs.Standing.{Standing}
 use Rattle.pool.specs.Blocks.{zeroed}
 
@@ -53,10 +53,6 @@ laid_over p w = record {
   carried = 0;
   held = zeroed 0 (modules_of p.r p.d2 p.r2) 0 (slots_of p.d p.d2) p.len w;
 }
-
-abbrev pub opened_phase : Bool → Phase
-opened_phase true = After
-opened_phase false = Before
 
 -- a pool that is just opened
 abbrev pub opened : {F R : Type 0} → Label → F → R → Pool F R

@@ -2,7 +2,7 @@
 ghost use Rattle.std.specs.Prelude.{◌≡◌, IfOk, IfErr, Ok, None};
 ghost use Rattle.layout.specs.Placing.{stripes_of};
 ghost use Rattle.pool.specs.Asked.{refusal_of};
-ghost use Rattle.pool.specs.Book.{dropped_phase, under_way_refusal};
+ghost use Rattle.pool.specs.Book.{under_way_refusal};
 ghost use Rattle.pool.specs.Openings.{why_not};
 ghost use Rattle.pool.specs.Pools.{Obeys};
 ghost use Rattle.pool.specs.Results.{of_done, of_order};
@@ -16,16 +16,6 @@ use crate::sweep::{clear_block, lowest_out};
 use field::Field;
 use layout::refusal::Refusal;
 use rack::rack::Rack;
-
-/// The phase that dropping a changeover leaves.
-fn dropped(phase: Phase) -> Phase
-    ensures { result ≡ dropped_phase phase }
-{
-    match phase {
-        Phase::Before | Phase::UnderWay | Phase::Voided => Phase::Before,
-        Phase::After => Phase::After,
-    }
-}
 
 /// Whether a changeover is under way.
 pub(crate) fn under_way(phase: Phase) -> Result<(), Refusal>
@@ -118,6 +108,6 @@ impl<F: Field, R: Rack> Pool<F, R> {
         ensures { Obeys F.arithmetic R.valid R.meaning self.old self.new Drop (Ok Done) }
     {
         order.spend();
-        self.phase = dropped(self.phase);
+        self.phase = self.phase.dropped();
     }
 }

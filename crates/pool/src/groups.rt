@@ -1,22 +1,10 @@
-// The groups whose parities are settled, and where these lie.
+// Where the parities of a group lie.
 ghost use Rattle.std.specs.Prelude.{◌≡◌, ◌<◌};
 ghost use Rattle.coding.specs.Groups.{groups, parities, slot_of};
 ghost use Rattle.coding.specs.Schemes.{scheme_of};
-ghost use Rattle.pool.specs.Book.{settled};
 
-use crate::kinds::Phase;
 use coding::group::Kind;
 use layout::plan::Plan;
-
-/// The kind of the groups whose parities are settled.
-pub(crate) fn settled_kind(phase: Phase) -> Kind
-    ensures { result ≡ settled phase }
-{
-    match phase {
-        Phase::Before | Phase::UnderWay | Phase::Voided => Kind::Stripe,
-        Phase::After => Kind::Row,
-    }
-}
 
 /// The slot of the parities of a group.
 pub(crate) fn parity_slot(plan: &Plan, kind: Kind, index: u16) -> u16

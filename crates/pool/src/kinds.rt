@@ -1,7 +1,8 @@
 // The plain values of a pool: phases, calls and answers.
 ghost use Rattle.std.specs.Prelude.{◌≡◌};
-ghost use Rattle.pool.specs.Book.{phase_number};
+ghost use Rattle.pool.specs.Book.{dropped_phase, opened_phase, phase_number, pulled_phase, settled};
 
+use coding::group::Kind;
 use layout::refusal::Refusal;
 
 /// Where a pool stands with its changeover.
@@ -15,6 +16,46 @@ pub enum Phase {
     Voided,
     /// 3: done; the parities of the rows are settled
     After,
+}
+
+impl Phase {
+    /// The phase that a label says.
+    pub(crate) fn opened(after: bool) -> Phase
+        ensures { result ≡ opened_phase after }
+    {
+        if after { Phase::After } else { Phase::Before }
+    }
+
+    /// The phase that pulling a module leaves.
+    pub(crate) fn pulled(self) -> Phase
+        ensures { result ≡ pulled_phase self }
+    {
+        match self {
+            Phase::Before => Phase::Before,
+            Phase::UnderWay | Phase::Voided => Phase::Voided,
+            Phase::After => Phase::After,
+        }
+    }
+
+    /// The phase that dropping a changeover leaves.
+    pub(crate) fn dropped(self) -> Phase
+        ensures { result ≡ dropped_phase self }
+    {
+        match self {
+            Phase::Before | Phase::UnderWay | Phase::Voided => Phase::Before,
+            Phase::After => Phase::After,
+        }
+    }
+
+    /// The kind of the groups whose parities are settled.
+    pub(crate) fn settled(self) -> Kind
+        ensures { result ≡ settled self }
+    {
+        match self {
+            Phase::Before | Phase::UnderWay | Phase::Voided => Kind::Stripe,
+            Phase::After => Kind::Row,
+        }
+    }
 }
 
 /// The number of a phase.

@@ -4,7 +4,7 @@ ghost use Rattle.coding.specs.Schemes.{scheme_of};
 ghost use Rattle.layout.specs.Labels.{label_of, Writes, ReadsBack};
 ghost use Rattle.pool.specs.Agrees.{Agrees};
 ghost use Rattle.pool.specs.Book.{blank};
-ghost use Rattle.pool.specs.Openings.{why_not, fit_refusal, lay_refusal, open_refusal, laid_over, opened_phase, opened, label_in};
+ghost use Rattle.pool.specs.Openings.{why_not, fit_refusal, lay_refusal, open_refusal, laid_over, opened, label_in};
 ghost use Rattle.pool.specs.Pools.{Held, standing};
 
 use crate::kinds::Phase;
@@ -36,13 +36,6 @@ fn check_fit<F: Field, R: Rack>(plan: &Plan, field: &F, rack: &R) -> Result<(), 
         return Err(Refusal::DoesNotFit(5));
     }
     Ok(())
-}
-
-/// The phase that a label says.
-fn phase_of(after: bool) -> Phase
-    ensures { result ≡ opened_phase after }
-{
-    if after { Phase::After } else { Phase::Before }
 }
 
 impl<F: Field, R: Rack> Pool<F, R> {
@@ -102,7 +95,7 @@ impl<F: Field, R: Rack> Pool<F, R> {
             plan: label.plan,
             field,
             rack,
-            phase: phase_of(label.after),
+            phase: Phase::opened(label.after),
             carried: 0,
         }
     }

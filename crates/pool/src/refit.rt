@@ -9,7 +9,6 @@ ghost use Rattle.pool.specs.Results.{of_done};
 ghost use Rattle.pool.specs.declared.kinds.Call.TheVariants.{Refit};
 ghost use Rattle.pool.specs.Restored.{HasChunk, ParityOn, WeightsOn, chunk_put, PutsChunks, PutsParity, PutsBack, Goes, Goes_on, GoesThrough};
 
-use crate::groups::settled_kind;
 use crate::outs::outs;
 use crate::pool::Pool;
 use coding::group::{Group, Kind};
@@ -213,7 +212,7 @@ impl<F: Field, R: Rack> Pool<F, R> {
         let refitting = Refitting {
             plan: self.plan,
             field: &self.field,
-            kind: settled_kind(self.phase),
+            kind: self.phase.settled(),
             module,
             out: outs(&self.rack, &self.plan),
         };

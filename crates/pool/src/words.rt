@@ -9,7 +9,7 @@ ghost use Rattle.pool.specs.WordSteps.{Looked};
 ghost use Rattle.pool.specs.declared.kinds.Call.TheVariants.{Read, Write};
 
 use crate::adding::{Parities, add_parities, shares_of};
-use crate::groups::{parity_count, parity_slot, settled_kind};
+use crate::groups::{parity_count, parity_slot};
 use crate::kinds::Phase;
 use crate::outs::outs;
 use crate::pool::Pool;
@@ -42,7 +42,7 @@ impl<F: Field, R: Rack> Pool<F, R> {
         requires { word.plan ≡ self.now.plan }
         ensures { Held F.arithmetic R.valid R.meaning self.now → (R.meaning self.now.rack).fitted word.cell.column ≡ false → Looked (F.arithmetic self.now.field) (scheme_of word.plan) (standing F.arithmetic R.valid R.meaning self.now) word.chunk word.offset result }
     {
-        let kind = settled_kind(self.phase);
+        let kind = self.phase.settled();
         let out = outs(&self.rack, &word.plan);
         let repair = prepare(&word.plan, &self.field, kind, word.group(kind), out)?;
         let pieces = repair.pieces_at(&self.field, &self.rack, word.offset);
@@ -96,7 +96,7 @@ impl<F: Field, R: Rack> Pool<F, R> {
         let Word {
             plan, cell, offset, ..
         } = word;
-        let kind = settled_kind(self.phase);
+        let kind = self.phase.settled();
         let fetched = old.parities;
         let settled = Parities {
             first: plan.d2,

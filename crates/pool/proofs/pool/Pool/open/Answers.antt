@@ -8,6 +8,6 @@ returns g c =
     record {
       held =
           fresh_held g.F.Field.arithmetic g.met.F.Field.lawful g.R.Rack.valid g.R.Rack.meaning g.R.Rack.bounded c.args.label.plan c.args.field c.args.rack
-          c.phase_of.result c.requires.valid c.requires.fits (λ way. opened_still c.args.label.after (sym c.phase_of.ensures ∙ way));
-      is = ap (λ (ph : Phase). record { plan = c.args.label.plan; field = c.args.field; rack = c.args.rack; phase = ph; carried = 0 }) c.phase_of.ensures;
+          c.opened.result c.requires.valid c.requires.fits (λ way. opened_still c.args.label.after (sym c.opened.ensures ∙ way));
+      is = ap (λ (ph : Phase). record { plan = c.args.label.plan; field = c.args.field; rack = c.args.rack; phase = ph; carried = 0 }) c.opened.ensures;
     }

@@ -46,8 +46,8 @@ returns-in-Some g c =
     let lm : m < modules (scheme_of x.plan) = omega arith in
     let pulled : (meaning x.rack).fitted m ≡ false = sym (asked (meaning x.rack) h.kept.bounded m) ∙ sym (c.if-ask.ensures h.rack_is_valid) in
     refused arithmetic valid meaning x h (Refit m) (BeyondRepair c.in-Some.i) (BeyondRepair c.in-Some.i)
-    (refusal_is (arithmetic x.field) (scheme_of x.plan) (held_sound arithmetic valid meaning x h) (standing arithmetic valid meaning x) m lm pulled c.settled_kind.result
-    c.settled_kind.ensures c.outs.result (c.outs.ensures h.rack_is_valid)
+    (refusal_is (arithmetic x.field) (scheme_of x.plan) (held_sound arithmetic valid meaning x h) (standing arithmetic valid meaning x) m lm pulled c.settled.result
+    c.settled.ensures c.outs.result (c.outs.ensures h.rack_is_valid)
     ∙ ap (λ (o : Option ℕ). refuse_at o BeyondRepair) (sym c.in-Some.ensures))
     refl
 
@@ -64,6 +64,6 @@ returns g c =
     let fit = c.fit.ensures h.rack_is_valid in
     let done = c.restore.ensures fit.1 in
     called arithmetic valid meaning x (g.met.F.Field.lawful x.field) h c.restore.new.rack x.phase x.carried (Refit m) (Ok Done) done.0
-    (refit_does (arithmetic x.field) (scheme_of x.plan) (held_sound arithmetic valid meaning x h) (standing arithmetic valid meaning x) m lm pulled c.settled_kind.result
-    c.settled_kind.ensures c.outs.result (c.outs.ensures h.rack_is_valid) h.kept (sym c.in_default.ensures) (meaning c.fit.new.self)
+    (refit_does (arithmetic x.field) (scheme_of x.plan) (held_sound arithmetic valid meaning x h) (standing arithmetic valid meaning x) m lm pulled c.settled.result
+    c.settled.ensures c.outs.result (c.outs.ensures h.rack_is_valid) h.kept (sym c.in_default.ensures) (meaning c.fit.new.self)
     (meaning c.restore.new.rack) fit.0.after (done.1 h.order_is))

@@ -44,7 +44,7 @@ returns-then-is_staged g c =
     let n = c.parity_count.result in
     let change = c.sub-change.result in
     let shares = c.shares_of-shares.result in
-    let meant = meant_of P A s j v old cell at c.settled_kind-kind.result c.group.result slot n change shares c.settled_kind-kind.ensures c.group.ensures.is
+    let meant = meant_of P A s j v old cell at c.settled-kind.result c.group.result slot n change shares c.settled-kind.ensures c.group.ensures.is
     c.parity_slot.ensures c.parity_count.ensures c.sub-change.ensures.is c.shares_of-shares.ensures in
     let put = c.put.ensures held.rack_is_valid in
     let w = g.R.Rack.meaning c.put.new.self in
@@ -81,7 +81,7 @@ returns-else-is_staged g c =
     let n = c.parity_count.result in
     let change = c.sub-change.result in
     let shares = c.shares_of-shares.result in
-    let meant = meant_of P A s j v old cell at c.settled_kind-kind.result c.group.result slot n change shares c.settled_kind-kind.ensures c.group.ensures.is
+    let meant = meant_of P A s j v old cell at c.settled-kind.result c.group.result slot n change shares c.settled-kind.ensures c.group.ensures.is
     c.parity_slot.ensures c.parity_count.ensures c.sub-change.ensures.is c.shares_of-shares.ensures in
     let put = c.put.ensures held.rack_is_valid in
     let w = g.R.Rack.meaning c.put.new.self in
