@@ -1,14 +1,13 @@
 -- What a write to the flat row does to its meaning.
-use Rattle.std.proofs.Common.{◌≡◌, ℕ, ◌+◌, ◌*◌, ◌<◌, ◌≤◌, Bool, true, leb, ◌≢◌, List, length, get_or, set, None, sym, ap, ◌∙◌, subst, ⊎_elim, mul-le-mul_right, mul_assoc, add-mul, arith, get_or-set_other, get_or-set_same}
+use Rattle.std.proofs.Common.{◌≡◌, ℕ, ◌+◌, ◌*◌, ◌<◌, ◌≤◌, Bool, true, ◌≢◌, List, length, get_or, set, sym, ap, ◌∙◌, subst, ⊎_elim, mul-le-mul_right, mul_assoc, add-mul, arith, get_or-set_other, get_or-set_same}
 use lib.Arith.{digits_lt}
-use Rattle.std.proofs.lemmas.Bool.{cond-true, leb-true, le-leb, and_parts, and_from, cases_lt}
+use Rattle.std.proofs.lemmas.Bool.{cond-true, cases_lt}
 use Rattle.rack.specs.declared.size.Size.{Size}
 use Rattle.rack.specs.declared.shape.Shape.{Shape}
 use Rattle.rack.specs.Meaning.{fits, stored, flagged, Fits}
 use Rattle.rack.specs.Shaped.{marked, is_unlike}
-use Rattle.rack.specs.Laid.{fair}
-use Rattle.rack.specs.Flat.{at, flat, flat_fits, flat_refusal, Blanked, FlatSound}
-use Rattle.rack.proofs.Laids.{same_high, same_low, At, unless_none, unless_true, fair_parts, fair_from, fair_marked, laid_put, laid_flag, fits_laid, empty_parts}
+use Rattle.rack.specs.Flat.{at, flat, Blanked, FlatSound}
+use Rattle.rack.proofs.Laids.{same_high, same_low, At, fair_marked, laid_put, laid_flag, fits_laid, empty_parts}
 
 pub place_lt : {x : Shape} {m s o : ℕ} → At x m s o → at x.size m s o < x.size.modules * x.size.slots * x.size.length
 place_lt h = digits_lt (digits_lt h.module_inside h.slot_inside) h.offset_inside
@@ -24,8 +23,11 @@ flat_put x cells m s o v h hv room =
     (λ m' s' o' hm' hs' ho' n.
     get_or-set_other cells (at x.size m s o) (at x.size m' s' o') v 0
     (λ e. let row = same_high (m' * S + s') (m * S + s) L o' o ho' h.offset_inside e in
-    n (same_high m' m S s' s hs' h.slot_inside row, same_low m' m S s' s hs' h.slot_inside row,
-      same_low (m' * S + s') (m * S + s) L o' o ho' h.offset_inside e)))
+    n (
+      same_high m' m S s' s hs' h.slot_inside row,
+      same_low m' m S s' s hs' h.slot_inside row,
+      same_low (m' * S + s') (m * S + s) L o' o ho' h.offset_inside e,
+    )))
 
 -- a module's places lie between m and m + 1 times its size, and no other module's do
 module_from : (size : Size) (m s o : ℕ) → m * (size.slots * size.length) ≤ at size m s o
@@ -67,14 +69,3 @@ flat_fit x x' m cells cells' h e a long blanked =
       record { answer = sym t; after = ap (λ y. flat y cells') a ∙ same ∙ sym (cond-true (fits w m) (flagged w m true) w t) },
       subst (λ y. FlatSound y cells') (sym a) (flat_marked m true (flat_keeps h long)),
     )
-
--- memory that is not refused is sound, and the other way round
-pub flat_sound : (x : Shape) (cells : List ℕ) → length x.on ≡ 32 → flat_refusal cells x.size ≡ None → FlatSound x cells
-flat_sound x cells f e =
-    let n : ℕ = x.size.modules * x.size.slots * x.size.length in
-    let p = and_parts (fair x.size) (leb n (length cells)) (unless_none (flat_fits cells x.size) e) in
-    record { numbers = fair_parts x f p.0; room = leb-true n (length cells) p.1 }
-
-pub flat_unrefused : (x : Shape) (cells : List ℕ) → FlatSound x cells → flat_refusal cells x.size ≡ None
-flat_unrefused x cells h =
-    unless_true (flat_fits cells x.size) (and_from _ _ (fair_from x h.numbers) (le-leb (x.size.modules * x.size.slots * x.size.length) (length cells) h.room))

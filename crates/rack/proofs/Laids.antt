@@ -1,12 +1,12 @@
 -- What a change of what lies at the places, or of a flag, does to the meaning.
-use Rattle.std.proofs.Common.{◌≡◌, ℕ, ◌+◌, ◌*◌, ◌/◌, ◌%◌, ◌<◌, ◌≤◌, Bool, true, false, cond, not, ◌&&◌, eqb, ltb, leb, ◌≢◌, List, length, get_or, set, Some, None, sym, refl, ap, ◌∙◌, subst, ⊎_elim, arith, length-set, get_or-set_other, get_or-set_same}
+use Rattle.std.proofs.Common.{◌≡◌, ℕ, ◌+◌, ◌*◌, ◌/◌, ◌%◌, ◌<◌, ◌≤◌, Bool, true, false, cond, not, ◌&&◌, eqb, ltb, ◌≢◌, List, length, get_or, set, Some, None, sym, refl, ap, ◌∙◌, subst, ⊎_elim, arith, length-set, get_or-set_other, get_or-set_same}
 use lib.Arith.{digits_lt, digits_div, digits_mod}
-use Rattle.std.proofs.lemmas.Bool.{lt-ltb, ltb-true, leb-true, le-leb, eqb-true, eq-eqb, ne_eqb, and_parts, and_from, cond-true, cond-false, cases_eq, not-true, and_left, le-ltb}
+use Rattle.std.proofs.lemmas.Bool.{lt-ltb, ltb-true, eqb-true, eq-eqb, ne_eqb, and_parts, and_from, cond-true, cond-false, cases_eq, not-true, and_left, le-ltb}
 use Rattle.std.proofs.lemmas.Bool.Decides.{nat_tests}
 use Rattle.rack.specs.declared.size.Size.{Size}
 use Rattle.rack.specs.declared.shape.Shape.{Shape}
 use Rattle.rack.specs.Meaning.{Meaning, holds, symbol_at, takes, stored, flagged, pulls, fits, Pulls, Fits}
-use Rattle.rack.specs.Shaped.{full, marked, is_marked, is_unlike}
+use Rattle.rack.specs.Shaped.{marked, is_marked, is_unlike}
 use Rattle.rack.specs.Laid.{low, inside, laid, fair, Fair, refusal, unless}
 
 -- two digits are known by their number
@@ -27,9 +27,6 @@ unless_none false e = let z : ◌≡◌ {A = ℕ} 0 1 = cc in absurd (omega arit
 pub unless_true : (b : Bool) → b ≡ true → unless b ≡ None
 unless_true b e = cond-true b None (Some refusal) e
 
-pub unless_false : (b : Bool) → b ≡ false → unless b ≡ Some refusal
-unless_false b e = cond-false b None (Some refusal) e
-
 -- the test on the four numbers, and the facts
 pub fair_parts : (x : Shape) → length x.on ≡ 32 → fair x.size ≡ true → Fair x
 fair_parts x f t = record {
@@ -45,11 +42,7 @@ fair_parts x f t = record {
 }
 
 pub fair_from : (x : Shape) → Fair x → fair x.size ≡ true
-fair_from x h =
-    and_from _ _ (and_from _ _ (le-leb 2 x.size.order h.order_low) (le-leb x.size.order 65535 h.order_high))
-    (and_from _ _ (and_from _ _ (le-leb 1 x.size.modules h.modules_low) (le-leb x.size.modules 32 h.modules_high))
-    (and_from _ _ (and_from _ _ (le-leb 1 x.size.slots h.slots_low) (le-leb x.size.slots 64 h.slots_high))
-    (and_from _ _ (le-leb 1 x.size.length h.length_low) (le-leb x.size.length 4096 h.length_high))))
+fair_from x h = grind (arith, nat_tests)
 
 pub fair_marked : {x : Shape} (m : ℕ) (b : Bool) → Fair x → Fair (marked x m b)
 fair_marked {x = x} m b h = record {

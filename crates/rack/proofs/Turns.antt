@@ -1,15 +1,14 @@
 -- What a turn of a page does to the meaning.
-use Rattle.std.proofs.Common.{◌≡◌, ℕ, ◌+◌, ◌*◌, ◌<◌, ◌≤◌, Bool, true, false, cond, not, ◌&&◌, ◌||◌, eqb, ltb, leb, ◌≢◌, ◌⊎◌, List, length, get_or, set, None, Decides, sym, refl, ap, ◌∙◌, subst, inl, inr, ⊎_elim, mul-le-mul_right, add-mul, add-one, arith, length-set, get_or-set_other, get_or-set_same}
+use Rattle.std.proofs.Common.{◌≡◌, ℕ, ◌+◌, ◌-◌, ◌*◌, ◌<◌, ◌≤◌, Bool, true, false, cond, not, ◌&&◌, ◌||◌, eqb, ltb, ◌≢◌, ◌⊎◌, List, length, get_or, set, None, Decides, sym, refl, ap, ◌∙◌, subst, inl, inr, ⊎_elim, mul-le-mul_right, add-mul, add-one, arith, length-set, get_or-set_other, get_or-set_same}
 use lib.Arith.{digits_lt}
-use Rattle.std.proofs.lemmas.Bool.{leb-true, le-leb, eq-eqb, ne_eqb, and_parts, and_from, cond-true, cond-false, cases_eq, cases_lt, cases_Bool, cases_order, lt-ltb, or_left, not_from_false}
+use Rattle.std.proofs.lemmas.Bool.{le-leb, eq-eqb, ne_eqb, and_from, cond-true, cond-false, cases_eq, cases_lt, cases_Bool, cases_order, lt-ltb, or_left, not_from_false}
 use Rattle.std.proofs.lemmas.Bool.Decides.{nat_tests, Decides-eqb, Decides-ltb, Decides-not, Decides-and, Decides-below_and, Decides-below_or}
 use Rattle.rack.specs.declared.size.Size.{Size}
 use Rattle.rack.specs.declared.shape.Shape.{Shape}
 use Rattle.rack.specs.Meaning.{takes, fits, stored, flagged, Puts, Fits}
 use Rattle.rack.specs.Shaped.{marked, is_unlike}
-use Rattle.rack.specs.Laid.{fair}
 use Rattle.rack.specs.Turning.{paged, turned, named, each_once, pages_of, page_of, spare_of, turn_fits, turn_refusal, exchanged, Turns, PagesBlanked, TurnSound}
-use Rattle.rack.proofs.Laids.{same_high, same_low, slot_lt, At, unless_none, unless_true, fair_parts, fair_from, fair_marked, laid_put, laid_flag, takes_laid, fits_laid, empty_parts}
+use Rattle.rack.proofs.Laids.{same_high, same_low, slot_lt, At, unless_true, fair_from, fair_marked, laid_put, laid_flag, takes_laid, fits_laid, empty_parts}
 
 -- the first n entries of a map are below n, and no two are the same
 abbrev pub Below : List ℕ → ℕ → Type 0
@@ -252,20 +251,20 @@ module _ (q span : ℕ) (xs ys : List ℕ)
         (λ (e : q * span + span ≤ p * span). over (p * span + o) (omega arith))
         (pages_apart p q span n)
 
--- memory that is not refused is sound, and the other way round
-pub turn_sound : (x : Shape) (map cells : List ℕ) → length x.on ≡ 32 → turn_refusal cells map x.size ≡ None → TurnSound x map cells
-turn_sound x map cells f e =
-    let n : ℕ = pages_of x.size in let L : ℕ = x.size.length in
-    let p = and_parts (fair x.size) (leb (n * L) (length cells) && (leb n (length map) && each_once map n n)) (unless_none (turn_fits cells map x.size) e) in
-    let q = and_parts (leb (n * L) (length cells)) (leb n (length map) && each_once map n n) p.1 in
-    let r = and_parts (leb n (length map)) (each_once map n n) q.1 in
-    record {
-      numbers = fair_parts x f p.0;
-      entries = leb-true n (length map) r.0;
-      room = leb-true (n * L) (length cells) q.0;
-      pages = r.1;
-    }
+-- entries from the first of a module up to that of the next
+pub pages_blanked : (size : Size) (m first end : ℕ) (map cells cells' : List ℕ) → first ≡ m * size.slots + 0 → end ≡ m * size.slots + size.slots
+    → ((i k : ℕ) → first ≤ i → i < end → k < size.length → get_or cells' (get_or map i 0 * size.length + k) 0 ≡ 0)
+    → ((p k : ℕ) → k < size.length → ((i : ℕ) → first ≤ i → i < end → p ≢ get_or map i 0)
+    → get_or cells' (p * size.length + k) 0 ≡ get_or cells (p * size.length + k) 0)
+    → PagesBlanked size m map cells cells'
+pages_blanked size m first end map cells cells' a b zero others = record {
+  zero = λ s k hs hk. zero (m * size.slots + s) k (omega (arith, a)) (omega (arith, b)) hk;
+  others = λ p k hk n. others p k hk
+      (λ i l u e. let at : i ≡ m * size.slots + (i - m * size.slots) = omega (arith, a) in
+      n (i - m * size.slots) (omega (arith, b, at)) (e ∙ ap (λ q. get_or map q 0) at));
+}
 
+-- memory that is sound is not refused
 pub turn_unrefused : (x : Shape) (map cells : List ℕ) → TurnSound x map cells → turn_refusal cells map x.size ≡ None
 turn_unrefused x map cells h =
     let n : ℕ = pages_of x.size in

@@ -54,6 +54,7 @@ pub(crate) fn read(cells: &[u16], place: usize, order: u16) -> Option<u16>
 }
 
 /// Writes 0 into each cell of a range. What of the range lies past the last cell is of no account.
+#[tactic(auto, using(std::proofs::lemmas::List::places))]
 pub(crate) fn clear(cells: &mut [u16], range: Range<usize>)
     ensures zero { (k : ℕ) → range.start ≤ k → k < range.end → slice_index cells.new k ≡ 0 }
     ensures below { (k : ℕ) → k < range.start → slice_index cells.new k ≡ slice_index cells.old k }

@@ -137,7 +137,10 @@ impl Rack for TurningRack<'_> {
         let size = self.shape.size;
         let first = slot_number(size, module, 0);
         let end = slot_number(size, module, size.slots);
-        if end > self.map.len() || !self.shape.mark(module, true) {
+        if end > self.map.len() {
+            return false;
+        }
+        if !self.shape.mark(module, true) {
             return false;
         }
         // By index: a loop over `&self.map[first..end]` that writes `self.cells` is not covered by the borrow checker (five forms tried).

@@ -1,4 +1,4 @@
-use Rattle.std.proofs.Common.{rules, false, get_or, set, sym, ap, ◌∙◌, arith, length-set}
+use Rattle.std.proofs.Common.{rules, get_or, set, sym, ap, ◌∙◌, arith, length-set}
 use Rattle.std.proofs.lemmas.Bool.{cond-true}
 use Rattle.rack.specs.Flat.{at, flat}
 use Rattle.rack.proofs.Laids.{takes_parts, takes_laid}
