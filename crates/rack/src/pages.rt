@@ -37,7 +37,7 @@ pub(crate) fn page_cells(page: u16, span: u16) -> Range<usize>
 }
 
 /// Writes a page anew into the spare one, with one symbol changed. False, and nothing done, where the cells do not hold two such pages.
-/// It answers a bool since `put`, its one caller, does.
+/// It answers a bool since the trait's `put` does.
 pub(crate) fn turn(
     cells: &mut [u16],
     page: u16,

@@ -45,6 +45,7 @@ impl Shape {
     }
 
     /// Marks a module as fitted or as out. False, and nothing done, where it is outside or so already.
+    /// It answers a bool since the trait's `pull` and `fit` do.
     pub fn mark(&mut self, module: u16, fitted: bool) -> bool
         ensures answer { result ≡ is_unlike self.old «module» fitted }
         ensures after { self.new ≡ (if result then marked self.old «module» fitted else self.old) }
