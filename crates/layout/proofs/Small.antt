@@ -4,40 +4,38 @@ use native.Mathlib.Nat.{mod-le}
 use Rattle.std.proofs.lemmas.Nat.{mul-le}
 use Rattle.std.proofs.lemmas.Bool.{cond_below, cond_above}
 use Rattle.layout.specs.Placing.{stripes_of, rows_of, beta_of, start_of, wide_row, wide_column, narrow_row, narrow_column}
-use Rattle.layout.specs.Sizes.{Inside}
+use Rattle.layout.specs.Sizes.{Sized}
 use Rattle.layout.proofs.Bounds.{stripes_le, rows_le, split, rest_pos}
 
-module _ (d n s e : ℕ) (h : Inside d n s e) where
-  pub s_le : s ≤ 13
-  s_le = omega (arith, stripes_le h.sized, h.stripe)
-
-  pub s_mod_le : s * (d % n) ≤ 13 * 14
-  s_mod_le = mul-le s (d % n) 13 14 s_le (omega (arith, mod-le d n, h.sized.high))
-
-  pub s_div_le : s * (d / n) ≤ 13 * 14
-  s_div_le = mul-le s (d / n) 13 14 s_le (omega (arith, div-le_self d n, h.sized.high))
+module _ {d n : ℕ} (z : Sized d n) where
+  pub w_rows_le : n / d * rows_of d n ≤ 14 * 14
+  w_rows_le = mul-le (n / d) (rows_of d n) 14 14 (omega (arith, div-le_self n d, z.high')) (rows_le z)
 
   pub w_stripes_le : d / n * stripes_of d n ≤ 14 * 14
-  w_stripes_le = mul-le (d / n) (stripes_of d n) 14 14 (omega (arith, div-le_self d n, h.sized.high)) (stripes_le h.sized)
-
-  pub w_rows_le : n / d * rows_of d n ≤ 14 * 14
-  w_rows_le = mul-le (n / d) (rows_of d n) 14 14 (omega (arith, div-le_self n d, h.sized.high')) (rows_le h.sized)
-
-  pub i_le : s - n / d * rows_of d n ≤ 13
-  i_le = omega (arith, s_le)
-
-  pub i_rest_le : (s - n / d * rows_of d n) * (d - n % d) ≤ 13 * 14
-  i_rest_le = mul-le _ _ 13 14 i_le (omega (arith, h.sized.high))
-
-  -- a chunk past the whole stripes: there is a rest
-  pub z_pos : d ≤ n → n / d * rows_of d n ≤ s → 0 < n % d
-  z_pos le past = rest_pos h.sized (omega (arith, split h.sized le, h.stripe))
+  w_stripes_le = mul-le (d / n) (stripes_of d n) 14 14 (omega (arith, div-le_self d n, z.high)) (stripes_le z)
 
   pub beta_le : d ≤ n → beta_of d n ≤ 14
-  beta_le le = omega (arith, split h.sized le, stripes_le h.sized)
+  beta_le wide = omega (arith, split z wide, stripes_le z)
 
-  pub past_whole : 0 < n → d / n ≤ e / n → d / n * n ≤ e
-  past_whole p q = (le-div_iff_mul-le {k = n} p).0 q
+  pub past_whole : (e : ℕ) → d / n ≤ e / n → d / n * n ≤ e
+  past_whole e = (le-div_iff_mul-le {k = n} (omega (arith, z.low'))).0
+
+module _ {d n s : ℕ} (z : Sized d n) (h : s < stripes_of d n) where
+  pub s_le : s ≤ 13
+  s_le = omega (arith, stripes_le z, h)
+
+  pub s_mod_le : s * (d % n) ≤ 13 * 14
+  s_mod_le = mul-le s (d % n) 13 14 s_le (omega (arith, mod-le d n, z.high))
+
+  pub s_div_le : s * (d / n) ≤ 13 * 14
+  s_div_le = mul-le s (d / n) 13 14 s_le (omega (arith, div-le_self d n, z.high))
+
+  pub i_rest_le : (s - n / d * rows_of d n) * (d - n % d) ≤ 13 * 14
+  i_rest_le = mul-le _ _ 13 14 (omega (arith, s_le)) (omega (arith, z.high))
+
+  -- a stripe past the whole ones: there is a rest
+  pub z_pos : d ≤ n → n / d * rows_of d n ≤ s → 0 < n % d
+  z_pos wide past = rest_pos z (omega (arith, split z wide, h))
 
 module _ (d n s e : ℕ) where
   pub wide_row_whole : s < n / d * rows_of d n → s / (n / d) ≡ wide_row d n s e

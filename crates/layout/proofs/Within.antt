@@ -10,7 +10,6 @@ use Rattle.layout.proofs.Facts.{placed}
 pub inside : (d n j : ℕ) → Sized d n → j < chunks_of d n → Inside d n (j / d) (j % d)
 inside d n j z h =
     record {
-      sized = z;
       stripe = div_below j d (stripes_of d n) (omega (arith, z.low)) (omega (arith, h, by_stripe z));
       index = mod_below j d (omega (arith, z.low));
     }
@@ -28,8 +27,7 @@ module _ (d n s e : ℕ) where
   unfolding coeff_at
   coeff_is h = rw (div-mul-add s d e h, mod-mul-add s d e h)
 
-  pub coeff_below : Inside d n s e → coeff_of d n s e < 28
-  coeff_below h =
-      let z = h.sized in
+  pub coeff_below : Sized d n → Inside d n s e → coeff_of d n s e < 28
+  coeff_below z h =
       let j : s * d + e < chunks_of d n = omega (arith, mul-add-lt s d e (stripes_of d n) h.stripe h.index, by_stripe z) in
       omega (arith, (placed d n z).promises.x_below (s * d + e) j, coeff_is h.index, reach_le z)

@@ -7,7 +7,7 @@ ghost use Rattle.layout.specs.Placing.{chunks_of, stripes_of, rows_of};
 ghost use Rattle.layout.specs.Promises.{outside_home};
 ghost use Rattle.layout.specs.Refusals.{Judged, out_of_range};
 
-use crate::numbers;
+use crate::numbers::Widths;
 use crate::plan::{Cell, Place, Plan};
 use crate::refusal::{Layer, Refusal};
 
@@ -41,7 +41,7 @@ impl Plan {
         if len < 1 || len > 4096 {
             return Err(out_of_range(5));
         }
-        let b = numbers::spread(d, d2);
+        let b = Widths { d, d2 }.spread();
         if r < b {
             return Err(Refusal {
                 number: 3,
@@ -66,25 +66,36 @@ impl Plan {
         })
     }
 
+    // The widths of the plan's placement.
+    fn widths(&self) -> Widths
+        ensures d { result.d ≡ self.now.d }
+        ensures d2 { result.d2 ≡ self.now.d2 }
+    {
+        Widths {
+            d: self.d,
+            d2: self.d2,
+        }
+    }
+
     /// l, the data chunks.
     pub fn chunks(&self) -> u16
         ensures { result ≡ chunks_of self.now.d self.now.d2 }
     {
-        numbers::chunks(self.d, self.d2)
+        self.widths().chunks()
     }
 
     /// The stripes before the changeover.
     pub fn stripes(&self) -> u16
         ensures { result ≡ stripes_of self.now.d self.now.d2 }
     {
-        numbers::stripes(self.d, self.d2)
+        self.widths().stripes()
     }
 
     /// The rows after the changeover.
     pub fn rows(&self) -> u16
         ensures { result ≡ rows_of self.now.d self.now.d2 }
     {
-        numbers::rows(self.d, self.d2)
+        self.widths().rows()
     }
 
     /// M, the modules that the plan needs.
@@ -105,34 +116,21 @@ impl Plan {
     pub fn cell(&self, chunk: u16) -> Option<Cell>
         ensures { CellOf self.now.d self.now.d2 chunk result }
     {
-        if chunk >= self.chunks() {
-            return None;
-        }
-        Some(Cell {
-            row: numbers::row_at(self.d, self.d2, chunk),
-            column: numbers::column_at(self.d, self.d2, chunk),
-            x: numbers::coeff_at(self.d, self.d2, chunk),
-        })
+        (chunk < self.chunks()).then(|| self.widths().cell(chunk))
     }
 
     /// The home row of a stripe.
     pub fn home(&self, stripe: u16) -> Option<u16>
         ensures { HomeOf self.now.d self.now.d2 stripe result }
     {
-        if stripe >= self.stripes() {
-            return None;
-        }
-        Some(numbers::home_of(self.d, self.d2, stripe))
+        (stripe < self.stripes()).then(|| self.widths().home(stripe))
     }
 
     /// The chunk in a row and a column.
     pub fn chunk_at(&self, row: u16, column: u16) -> Option<u16>
         ensures { ChunkIn self.now.d self.now.d2 row column result }
     {
-        if row >= self.rows() || column >= self.d2 {
-            return None;
-        }
-        Some(numbers::chunk_in(self.d, self.d2, row, column))
+        (row < self.rows() && column < self.d2).then(|| self.widths().chunk_in(row, column))
     }
 
     /// The module and slot of a chunk.
@@ -178,7 +176,7 @@ impl Plan {
         ensures counted { self.now.r2 ≤ self.now.r → result.0 ≡ outside_home (placement self.now.d self.now.d2) }
     {
         if self.r2 <= self.r {
-            (numbers::outside(self.d, self.d2), self.r2 * self.stripes())
+            (self.widths().outside(), self.r2 * self.stripes())
         } else {
             (self.chunks(), 0)
         }
