@@ -6,29 +6,23 @@ use Rattle.std.proofs.lemmas.Bool.{cond_below, cond_above}
 use Rattle.layout.specs.Placing.{stripes_of, rows_of, beta_of, start_of, wide_chunk, narrow_chunk}
 use Rattle.layout.specs.Sizes.{Sized, IsCell}
 use Rattle.layout.proofs.Bounds.{stripes_le, rows_le, behind_pos}
-use Rattle.layout.proofs.Small.{w_rows_le}
+use Rattle.layout.proofs.Small.{wide_w_le, w_rows_le}
 
-module _ {d n i c : ℕ} (z : Sized d n) (h : IsCell d n i c) where
-  pub i_le : i ≤ 13
-  i_le = omega (arith, rows_le z, h.row)
+module _ {d n i : ℕ} (z : Sized d n) (h : i < rows_of d n) where
+  i_le : i ≤ 13
+  i_le = omega (arith, rows_le z, h)
 
   pub times_w_le : i * (n / d) ≤ 13 * 14
-  times_w_le = mul-le i (n / d) 13 14 i_le (omega (arith, div-le_self n d, z.high'))
+  times_w_le = mul-le i (n / d) 13 14 i_le (wide_w_le z)
 
   pub times_wd_le : i * (n / d) * d ≤ 13 * 14 * 14
   times_wd_le = mul-le (i * (n / d)) d (13 * 14) 14 times_w_le z.high
-
-  pub off_lt : (c + n - start_of d n i) % n < n
-  off_lt = mod_below _ n (omega (arith, z.low'))
 
   pub split_le : (n / d * rows_of d n + i) * d ≤ 209 * 14
   split_le = mul-le (n / d * rows_of d n + i) d 209 14 (omega (arith, w_rows_le z, i_le)) z.high
 
   pub rests_le : (i - beta_of d n) * (n % d) ≤ 13 * 14
   rests_le = mul-le (i - beta_of d n) (n % d) 13 14 (omega (arith, i_le)) (omega (arith, mod-le n d, z.high'))
-
-  pub rest_lt : n % d < d
-  rest_lt = mod_below n d (omega (arith, z.low))
 
   pub stripe_le : i / (d / n) * d ≤ 13 * 14
   stripe_le = mul-le (i / (d / n)) d 13 14 (omega (arith, div-le_self i (d / n), i_le)) z.high
@@ -41,10 +35,11 @@ module _ {d n i c : ℕ} (z : Sized d n) (h : IsCell d n i c) where
 
   -- a row behind those that stripes fill: there is a rest
   pub z_pos : d / n * stripes_of d n ≤ i → 0 < d % n
-  z_pos past = behind_pos z (omega (arith, h.row))
+  z_pos past = behind_pos z (omega (arith, h))
 
+module _ {d n i c : ℕ} (z : Sized d n) (h : IsCell d n i c) where
   behind_all : (i - d / n * stripes_of d n) * n + c ≤ 210
-  behind_all = omega (arith, behind_le, h.column, z.high')
+  behind_all = omega (arith, behind_le z h.row, h.column, z.high')
 
   pub narrow_tail_le : ((i - d / n * stripes_of d n) * n + c) / (d % n) * d ≤ 210 * 14
   narrow_tail_le = mul-le _ d 210 14 (omega (arith, behind_all, div-le_self ((i - d / n * stripes_of d n) * n + c) (d % n))) z.high
@@ -52,11 +47,8 @@ module _ {d n i c : ℕ} (z : Sized d n) (h : IsCell d n i c) where
   pub narrow_rest_le : ((i - d / n * stripes_of d n) * n + c) % (d % n) ≤ 210
   narrow_rest_le = omega (arith, behind_all, mod-le ((i - d / n * stripes_of d n) * n + c) (d % n))
 
-  pub narrow_fill_le : d / n * n ≤ 14 * 14
-  narrow_fill_le = mul-le (d / n) n 14 14 (omega (arith, div-le_self d n, z.high)) z.high'
-
   rests_all : (i - beta_of d n) * (n % d) + ((c + n - start_of d n i) % n - n / d * d) ≤ 210
-  rests_all = omega (arith, rests_le, off_lt, z.high')
+  rests_all = omega (arith, rests_le z h.row, z.high')
 
   pub wide_tail_le : n / d * rows_of d n + ((i - beta_of d n) * (n % d) + ((c + n - start_of d n i) % n - n / d * d)) / (d - n % d) ≤ 406
   wide_tail_le =

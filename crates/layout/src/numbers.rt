@@ -92,6 +92,7 @@ impl Widths {
     }
 
     // Where index e of stripe s stands in a wide placement.
+    #[tactic(auto, using(crate::proofs::Bounds::stripes_le, crate::proofs::Small::w_rows_le, crate::proofs::Small::i_rest_le, crate::proofs::Small::z_pos, crate::proofs::Small::beta_le, crate::proofs::Small::wide_row_whole, crate::proofs::Small::wide_row_head, crate::proofs::Small::wide_row_tail, crate::proofs::Small::wide_column_whole, crate::proofs::Small::wide_column_head, crate::proofs::Small::wide_column_tail))]
     fn wide_spot(self, s: u16, e: u16) -> Spot
         requires inside { Inside self.d self.d2 s e }
         requires wide { self.d ≤ self.d2 }
@@ -122,11 +123,13 @@ impl Widths {
     }
 
     // Where index e of stripe s stands in a narrow placement.
+    #[tactic(auto, using(crate::proofs::Small::s_mod_le, crate::proofs::Small::s_div_le, crate::proofs::Small::w_stripes_le, crate::proofs::Small::past_whole, crate::proofs::Small::narrow_row_whole, crate::proofs::Small::narrow_row_tail, crate::proofs::Small::narrow_column_whole, crate::proofs::Small::narrow_column_tail))]
     fn narrow_spot(self, s: u16, e: u16) -> Spot
         requires inside { Inside self.d self.d2 s e }
         requires narrow { self.d2 < self.d }
         ensures row { result.row ≡ narrow_row self.d self.d2 s e }
         ensures column { result.column ≡ narrow_column self.d self.d2 s e }
+        ensures below { result.column < self.d2 }
     {
         let w = self.d / self.d2;
         if e / self.d2 < w {
@@ -143,6 +146,7 @@ impl Widths {
     }
 
     // The cell of chunk j.
+    #[tactic(auto, using(crate::proofs::Within::inside, std::proofs::lemmas::Bool::Decides::nat_tests), unfolding(crate::specs::Placing::row_at, crate::specs::Placing::row_of, crate::specs::Placing::column_at, crate::specs::Placing::column_of, crate::specs::Placing::coeff_at, crate::specs::Placing::coeff_of))]
     pub fn cell(self, j: u16) -> Cell
         requires { j < chunks_of self.d self.d2 }
         ensures row { result.row ≡ row_at self.d self.d2 j }
@@ -169,6 +173,7 @@ impl Widths {
     }
 
     // The home row of stripe s.
+    #[tactic(auto, using(crate::proofs::Small::s_div_le, crate::proofs::Small::narrow_w_le, std::proofs::lemmas::Bool::Decides::nat_tests), unfolding(crate::specs::Placing::home_of))]
     pub fn home(self, s: u16) -> u16
         requires { s < stripes_of self.d self.d2 }
         ensures { result ≡ home_of self.d self.d2 s }
@@ -181,6 +186,7 @@ impl Widths {
         }
     }
 
+    #[tactic(auto, using(crate::proofs::Small::w_rows_le, crate::proofs::Bounds::rows_le, crate::proofs::Cells::times_w_le, crate::proofs::Cells::times_wd_le, crate::proofs::Cells::split_le, crate::proofs::Cells::rests_le, crate::proofs::Cells::wide_tail_le, crate::proofs::Cells::wide_base_le, crate::proofs::Cells::wide_rest_le, crate::proofs::Cells::wide_chunk_whole, crate::proofs::Cells::wide_chunk_head, crate::proofs::Cells::wide_chunk_tail))]
     fn wide_chunk(self, i: u16, c: u16) -> u16
         requires cell { IsCell self.d self.d2 i c }
         requires wide { self.d ≤ self.d2 }
@@ -201,6 +207,7 @@ impl Widths {
         (whole + t / (self.d - z)) * self.d + z + t % (self.d - z)
     }
 
+    #[tactic(auto, using(crate::proofs::Small::w_stripes_le, crate::proofs::Cells::stripe_le, crate::proofs::Cells::lines_le, crate::proofs::Cells::behind_le, crate::proofs::Cells::z_pos, crate::proofs::Cells::narrow_tail_le, crate::proofs::Cells::narrow_rest_le, crate::proofs::Small::narrow_fill_le, crate::proofs::Cells::narrow_chunk_whole, crate::proofs::Cells::narrow_chunk_tail))]
     fn narrow_chunk(self, i: u16, c: u16) -> u16
         requires cell { IsCell self.d self.d2 i c }
         requires narrow { self.d2 < self.d }
@@ -217,6 +224,7 @@ impl Widths {
     }
 
     // The chunk in row i and column c.
+    #[tactic(auto, using(std::proofs::lemmas::Bool::Decides::nat_tests), unfolding(crate::specs::Placing::chunk_at))]
     pub fn chunk_in(self, i: u16, c: u16) -> u16
         requires { IsCell self.d self.d2 i c }
         ensures { result ≡ chunk_at self.d self.d2 i c }
@@ -229,6 +237,7 @@ impl Widths {
     }
 
     // The chunks outside the home rows.
+    #[tactic(auto, using(crate::proofs::Small::wide_outside_le, crate::proofs::Small::narrow_outside_le, crate::proofs::Facts::outside_is, std::proofs::lemmas::Bool::Decides::nat_tests), unfolding(crate::specs::Counts::outside_of))]
     pub fn outside(self) -> u16
         ensures value { result ≡ outside_of self.d self.d2 }
         ensures counted { result ≡ outside_home (placement self.d self.d2) }
