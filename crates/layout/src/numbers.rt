@@ -92,7 +92,7 @@ impl Widths {
     }
 
     // Where index e of stripe s stands in a wide placement.
-    #[tactic(auto, using(crate::proofs::Bounds::stripes_le, crate::proofs::Small::w_rows_le, crate::proofs::Small::i_rest_le, crate::proofs::Small::z_pos, crate::proofs::Small::beta_le, crate::proofs::Small::wide_row_whole, crate::proofs::Small::wide_row_head, crate::proofs::Small::wide_row_tail, crate::proofs::Small::wide_column_whole, crate::proofs::Small::wide_column_head, crate::proofs::Small::wide_column_tail))]
+    #[tactic(auto, using(crate::proofs::Bounds::stripes_le, crate::proofs::Small::w_rows_le, crate::proofs::Small::i_rest_le, crate::proofs::Small::z_pos, crate::proofs::Small::beta_le, std::proofs::lemmas::Bool::Decides::nat_tests), unfolding(crate::specs::Placing::wide_row, crate::specs::Placing::wide_column))]
     fn wide_spot(self, s: u16, e: u16) -> Spot
         requires inside { Inside self.d self.d2 s e }
         requires wide { self.d ≤ self.d2 }
@@ -123,7 +123,7 @@ impl Widths {
     }
 
     // Where index e of stripe s stands in a narrow placement.
-    #[tactic(auto, using(crate::proofs::Small::s_mod_le, crate::proofs::Small::s_div_le, crate::proofs::Small::w_stripes_le, crate::proofs::Small::past_whole, crate::proofs::Small::narrow_row_whole, crate::proofs::Small::narrow_row_tail, crate::proofs::Small::narrow_column_whole, crate::proofs::Small::narrow_column_tail))]
+    #[tactic(auto, using(crate::proofs::Small::s_mod_le, crate::proofs::Small::s_div_le, crate::proofs::Small::w_stripes_le, crate::proofs::Small::past_whole, std::proofs::lemmas::Bool::Decides::nat_tests), unfolding(crate::specs::Placing::narrow_row, crate::specs::Placing::narrow_column))]
     fn narrow_spot(self, s: u16, e: u16) -> Spot
         requires inside { Inside self.d self.d2 s e }
         requires narrow { self.d2 < self.d }
@@ -186,7 +186,7 @@ impl Widths {
         }
     }
 
-    #[tactic(auto, using(crate::proofs::Small::w_rows_le, crate::proofs::Bounds::rows_le, crate::proofs::Cells::times_w_le, crate::proofs::Cells::times_wd_le, crate::proofs::Cells::split_le, crate::proofs::Cells::rests_le, crate::proofs::Cells::wide_tail_le, crate::proofs::Cells::wide_base_le, crate::proofs::Cells::wide_rest_le, crate::proofs::Cells::wide_chunk_whole, crate::proofs::Cells::wide_chunk_head, crate::proofs::Cells::wide_chunk_tail))]
+    #[tactic(auto, using(crate::proofs::Small::w_rows_le, crate::proofs::Bounds::rows_le, crate::proofs::Cells::times_w_le, crate::proofs::Cells::times_wd_le, crate::proofs::Cells::split_le, crate::proofs::Cells::rests_le, crate::proofs::Cells::wide_tail_le, crate::proofs::Cells::wide_base_le, crate::proofs::Cells::wide_rest_le, std::proofs::lemmas::Bool::Decides::nat_tests), unfolding(crate::specs::Placing::wide_chunk))]
     fn wide_chunk(self, i: u16, c: u16) -> u16
         requires cell { IsCell self.d self.d2 i c }
         requires wide { self.d ≤ self.d2 }
@@ -207,7 +207,7 @@ impl Widths {
         (whole + t / (self.d - z)) * self.d + z + t % (self.d - z)
     }
 
-    #[tactic(auto, using(crate::proofs::Small::w_stripes_le, crate::proofs::Cells::stripe_le, crate::proofs::Cells::lines_le, crate::proofs::Cells::behind_le, crate::proofs::Cells::z_pos, crate::proofs::Cells::narrow_tail_le, crate::proofs::Cells::narrow_rest_le, crate::proofs::Small::narrow_fill_le, crate::proofs::Cells::narrow_chunk_whole, crate::proofs::Cells::narrow_chunk_tail))]
+    #[tactic(auto, using(crate::proofs::Small::w_stripes_le, crate::proofs::Cells::stripe_le, crate::proofs::Cells::lines_le, crate::proofs::Cells::behind_le, crate::proofs::Cells::z_pos, crate::proofs::Cells::narrow_tail_le, crate::proofs::Cells::narrow_rest_le, crate::proofs::Small::narrow_fill_le, std::proofs::lemmas::Bool::Decides::nat_tests), unfolding(crate::specs::Placing::narrow_chunk))]
     fn narrow_chunk(self, i: u16, c: u16) -> u16
         requires cell { IsCell self.d self.d2 i c }
         requires narrow { self.d2 < self.d }
