@@ -6,7 +6,7 @@ use Rattle.std.proofs.lemmas.Bool.{cond_below, cond_above}
 use Rattle.layout.specs.Placing.{stripes_of, rows_of, beta_of, start_of, wide_chunk, narrow_chunk}
 use Rattle.layout.specs.Sizes.{Sized, IsCell}
 use Rattle.layout.proofs.Bounds.{stripes_le, rows_le, behind_pos}
-use Rattle.layout.proofs.Small.{wide_w_le, w_rows_le}
+use Rattle.layout.proofs.Small.{wide_w_le, w_rows_le, w_stripes_le, narrow_fill_le}
 
 module _ {d n i : ℕ} (z : Sized d n) (h : i < rows_of d n) where
   i_le : i ≤ 13
@@ -34,8 +34,8 @@ module _ {d n i : ℕ} (z : Sized d n) (h : i < rows_of d n) where
   behind_le = mul-le (i - d / n * stripes_of d n) n 13 14 (omega (arith, i_le)) z.high'
 
   -- a row behind those that stripes fill: there is a rest
-  pub z_pos : d / n * stripes_of d n ≤ i → 0 < d % n
-  z_pos past = behind_pos z (omega (arith, h))
+  pub narrow_rest_pos : d / n * stripes_of d n ≤ i → 0 < d % n
+  narrow_rest_pos past = behind_pos z (omega (arith, h))
 
 module _ {d n i c : ℕ} (z : Sized d n) (h : IsCell d n i c) where
   behind_all : (i - d / n * stripes_of d n) * n + c ≤ 210
@@ -66,28 +66,5 @@ module _ {d n i c : ℕ} (z : Sized d n) (h : IsCell d n i c) where
   wide_rest_le =
       omega (arith, rests_all, mod-le ((i - beta_of d n) * (n % d) + ((c + n - start_of d n i) % n - n / d * d)) (d - n % d))
 
-module _ (d n i c : ℕ) where
-  pub wide_chunk_whole : (c + n - start_of d n i) % n < n / d * d → i * (n / d) * d + (c + n - start_of d n i) % n ≡ wide_chunk d n i c
-  unfolding wide_chunk
-  wide_chunk_whole h = cond_below ((c + n - start_of d n i) % n) (n / d * d) _ _ h
-
-  pub wide_chunk_head : n / d * d ≤ (c + n - start_of d n i) % n → i < beta_of d n →
-      (n / d * rows_of d n + i) * d + ((c + n - start_of d n i) % n - n / d * d) ≡ wide_chunk d n i c
-  unfolding wide_chunk
-  wide_chunk_head h g = cond_above ((c + n - start_of d n i) % n) (n / d * d) _ _ _ h (cond_below i (beta_of d n) _ _ g)
-
-  pub wide_chunk_tail : n / d * d ≤ (c + n - start_of d n i) % n → beta_of d n ≤ i → (t : ℕ) →
-      t ≡ (i - beta_of d n) * (n % d) + ((c + n - start_of d n i) % n - n / d * d) →
-      (n / d * rows_of d n + t / (d - n % d)) * d + n % d + t % (d - n % d) ≡ wide_chunk d n i c
-  unfolding wide_chunk
-  wide_chunk_tail h g t e =
-      rw e (cond_above ((c + n - start_of d n i) % n) (n / d * d) _ _ _ h (cond_above i (beta_of d n) _ _ _ g refl))
-
-  pub narrow_chunk_whole : i < d / n * stripes_of d n → i / (d / n) * d + i % (d / n) * n + c ≡ narrow_chunk d n i c
-  unfolding narrow_chunk
-  narrow_chunk_whole h = cond_below i (d / n * stripes_of d n) _ _ h
-
-  pub narrow_chunk_tail : d / n * stripes_of d n ≤ i → (t : ℕ) → t ≡ (i - d / n * stripes_of d n) * n + c →
-      t / (d % n) * d + d / n * n + t % (d % n) ≡ narrow_chunk d n i c
-  unfolding narrow_chunk
-  narrow_chunk_tail h t e = rw e (cond_above i (d / n * stripes_of d n) _ _ _ h refl)
+-- what keeps the numbers on the way to a chunk small
+pub ruleset on_the_way = (rows_le, w_rows_le, w_stripes_le, narrow_fill_le, times_w_le, times_wd_le, split_le, rests_le, stripe_le, lines_le, behind_le, narrow_rest_pos, narrow_tail_le, narrow_rest_le, wide_tail_le, wide_base_le, wide_rest_le)

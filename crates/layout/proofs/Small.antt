@@ -49,58 +49,8 @@ module _ {d n s : ℕ} (z : Sized d n) (h : s < stripes_of d n) where
   i_rest_le = mul-le _ _ 13 14 (omega (arith, s_le)) (omega (arith, z.high))
 
   -- a stripe past the whole ones: there is a rest
-  pub z_pos : d ≤ n → n / d * rows_of d n ≤ s → 0 < n % d
-  z_pos wide past = rest_pos z (omega (arith, split z wide, h))
+  pub wide_rest_pos : d ≤ n → n / d * rows_of d n ≤ s → 0 < n % d
+  wide_rest_pos wide past = rest_pos z (omega (arith, split z wide, h))
 
-module _ (d n s e : ℕ) where
-  pub wide_row_whole : s < n / d * rows_of d n → s / (n / d) ≡ wide_row d n s e
-  unfolding wide_row
-  wide_row_whole h = cond_below s (n / d * rows_of d n) _ _ h
-
-  pub wide_row_head : n / d * rows_of d n ≤ s → e < n % d → s - n / d * rows_of d n ≡ wide_row d n s e
-  unfolding wide_row
-  wide_row_head h g = cond_above s (n / d * rows_of d n) _ _ _ h (cond_below e (n % d) _ _ g)
-
-  pub wide_row_tail : n / d * rows_of d n ≤ s → n % d ≤ e →
-      beta_of d n + ((s - n / d * rows_of d n) * (d - n % d) + e - n % d) / (n % d) ≡ wide_row d n s e
-  unfolding wide_row
-  wide_row_tail h g = cond_above s (n / d * rows_of d n) _ _ _ h (cond_above e (n % d) _ _ _ g refl)
-
-  pub wide_column_whole : s < n / d * rows_of d n → (start_of d n (s / (n / d)) + s % (n / d) * d + e) % n ≡ wide_column d n s e
-  unfolding wide_column
-  wide_column_whole h = cond_below s (n / d * rows_of d n) _ _ h
-
-  pub wide_column_head : n / d * rows_of d n ≤ s → e < n % d →
-      (start_of d n (s - n / d * rows_of d n) + n / d * d + e) % n ≡ wide_column d n s e
-  unfolding wide_column
-  wide_column_head h g = cond_above s (n / d * rows_of d n) _ _ _ h (cond_below e (n % d) _ _ g)
-
-  pub wide_column_tail : n / d * rows_of d n ≤ s → n % d ≤ e →
-      ((s - n / d * rows_of d n) * (d - n % d) + e - n % d) % n ≡ wide_column d n s e
-  unfolding wide_column
-  wide_column_tail h g = cond_above s (n / d * rows_of d n) _ _ _ h (cond_above e (n % d) _ _ _ g refl)
-
-  pub narrow_row_whole : e / n < d / n → s * (d / n) + e / n ≡ narrow_row d n s e
-  unfolding narrow_row
-  narrow_row_whole h = cond_below (e / n) (d / n) _ _ h
-
-  pub narrow_row_tail : d / n ≤ e / n → d / n * stripes_of d n + (s * (d % n) + e - d / n * n) / n ≡ narrow_row d n s e
-  unfolding narrow_row
-  narrow_row_tail h = cond_above (e / n) (d / n) _ _ _ h refl
-
-  pub narrow_column_whole : e / n < d / n → e % n ≡ narrow_column d n s e
-  unfolding narrow_column
-  narrow_column_whole h = cond_below (e / n) (d / n) _ _ h
-
-  pub narrow_column_tail : d / n ≤ e / n → (s * (d % n) + e - d / n * n) % n ≡ narrow_column d n s e
-  unfolding narrow_column
-  narrow_column_tail h = cond_above (e / n) (d / n) _ _ _ h refl
-
-module _ (d n i : ℕ) where
-  pub start_low : i < beta_of d n → i * (d - n % d) % n ≡ start_of d n i
-  unfolding start_of
-  start_low h = cond_below i (beta_of d n) _ _ h
-
-  pub start_high : beta_of d n ≤ i → (i - beta_of d n + 1) * (n % d) % n ≡ start_of d n i
-  unfolding start_of
-  start_high h = cond_above i (beta_of d n) _ _ _ h refl
+-- what keeps the numbers on the way to a place small
+pub ruleset on_the_way = (stripes_le, narrow_w_le, w_rows_le, w_stripes_le, beta_le, past_whole, s_mod_le, s_div_le, i_rest_le, wide_rest_pos)

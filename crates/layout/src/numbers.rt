@@ -68,7 +68,7 @@ impl Widths {
     }
 
     // The most chunks of one stripe that a column may hold.
-    #[tactic(auto, using(std::proofs::lemmas::Bool::Decides::nat_tests), unfolding(crate::specs::Placing::spread_of))]
+    #[tactic(auto, unfolding(crate::specs::Placing::spread_of))]
     pub fn spread(self) -> u16
         ensures { result ≡ spread_of self.d self.d2 }
     {
@@ -76,7 +76,7 @@ impl Widths {
     }
 
     // The column at which row i of a wide placement starts.
-    #[tactic(auto, using(std::proofs::lemmas::Bool::Decides::nat_tests), unfolding(crate::specs::Placing::start_of))]
+    #[tactic(auto, unfolding(crate::specs::Placing::start_of))]
     fn start(self, i: u16) -> u16
         requires { i ≤ 14 }
         ensures value { result ≡ start_of self.d self.d2 i }
@@ -92,7 +92,7 @@ impl Widths {
     }
 
     // Where index e of stripe s stands in a wide placement.
-    #[tactic(auto, using(crate::proofs::Bounds::stripes_le, crate::proofs::Small::w_rows_le, crate::proofs::Small::i_rest_le, crate::proofs::Small::z_pos, crate::proofs::Small::beta_le, std::proofs::lemmas::Bool::Decides::nat_tests), unfolding(crate::specs::Placing::wide_row, crate::specs::Placing::wide_column))]
+    #[tactic(auto, using(crate::proofs::Small::on_the_way), unfolding(crate::specs::Placing::wide_row, crate::specs::Placing::wide_column))]
     fn wide_spot(self, s: u16, e: u16) -> Spot
         requires inside { Inside self.d self.d2 s e }
         requires wide { self.d ≤ self.d2 }
@@ -123,7 +123,7 @@ impl Widths {
     }
 
     // Where index e of stripe s stands in a narrow placement.
-    #[tactic(auto, using(crate::proofs::Small::s_mod_le, crate::proofs::Small::s_div_le, crate::proofs::Small::w_stripes_le, crate::proofs::Small::past_whole, std::proofs::lemmas::Bool::Decides::nat_tests), unfolding(crate::specs::Placing::narrow_row, crate::specs::Placing::narrow_column))]
+    #[tactic(auto, using(crate::proofs::Small::on_the_way), unfolding(crate::specs::Placing::narrow_row, crate::specs::Placing::narrow_column))]
     fn narrow_spot(self, s: u16, e: u16) -> Spot
         requires inside { Inside self.d self.d2 s e }
         requires narrow { self.d2 < self.d }
@@ -146,7 +146,7 @@ impl Widths {
     }
 
     // The cell of chunk j.
-    #[tactic(auto, using(crate::proofs::Within::inside, std::proofs::lemmas::Bool::Decides::nat_tests), unfolding(crate::specs::Placing::row_at, crate::specs::Placing::row_of, crate::specs::Placing::column_at, crate::specs::Placing::column_of, crate::specs::Placing::coeff_at, crate::specs::Placing::coeff_of))]
+    #[tactic(auto, using(crate::proofs::Within::inside), unfolding(crate::specs::Placing::row_at, crate::specs::Placing::row_of, crate::specs::Placing::column_at, crate::specs::Placing::column_of, crate::specs::Placing::coeff_at, crate::specs::Placing::coeff_of))]
     pub fn cell(self, j: u16) -> Cell
         requires { j < chunks_of self.d self.d2 }
         ensures row { result.row ≡ row_at self.d self.d2 j }
@@ -173,7 +173,7 @@ impl Widths {
     }
 
     // The home row of stripe s.
-    #[tactic(auto, using(crate::proofs::Small::s_div_le, crate::proofs::Small::narrow_w_le, std::proofs::lemmas::Bool::Decides::nat_tests), unfolding(crate::specs::Placing::home_of))]
+    #[tactic(auto, using(crate::proofs::Small::on_the_way), unfolding(crate::specs::Placing::home_of))]
     pub fn home(self, s: u16) -> u16
         requires { s < stripes_of self.d self.d2 }
         ensures { result ≡ home_of self.d self.d2 s }
@@ -186,7 +186,7 @@ impl Widths {
         }
     }
 
-    #[tactic(auto, using(crate::proofs::Small::w_rows_le, crate::proofs::Bounds::rows_le, crate::proofs::Cells::times_w_le, crate::proofs::Cells::times_wd_le, crate::proofs::Cells::split_le, crate::proofs::Cells::rests_le, crate::proofs::Cells::wide_tail_le, crate::proofs::Cells::wide_base_le, crate::proofs::Cells::wide_rest_le, std::proofs::lemmas::Bool::Decides::nat_tests), unfolding(crate::specs::Placing::wide_chunk))]
+    #[tactic(auto, using(crate::proofs::Cells::on_the_way), unfolding(crate::specs::Placing::wide_chunk))]
     fn wide_chunk(self, i: u16, c: u16) -> u16
         requires cell { IsCell self.d self.d2 i c }
         requires wide { self.d ≤ self.d2 }
@@ -207,7 +207,7 @@ impl Widths {
         (whole + t / (self.d - z)) * self.d + z + t % (self.d - z)
     }
 
-    #[tactic(auto, using(crate::proofs::Small::w_stripes_le, crate::proofs::Cells::stripe_le, crate::proofs::Cells::lines_le, crate::proofs::Cells::behind_le, crate::proofs::Cells::z_pos, crate::proofs::Cells::narrow_tail_le, crate::proofs::Cells::narrow_rest_le, crate::proofs::Small::narrow_fill_le, std::proofs::lemmas::Bool::Decides::nat_tests), unfolding(crate::specs::Placing::narrow_chunk))]
+    #[tactic(auto, using(crate::proofs::Cells::on_the_way), unfolding(crate::specs::Placing::narrow_chunk))]
     fn narrow_chunk(self, i: u16, c: u16) -> u16
         requires cell { IsCell self.d self.d2 i c }
         requires narrow { self.d2 < self.d }
@@ -224,7 +224,7 @@ impl Widths {
     }
 
     // The chunk in row i and column c.
-    #[tactic(auto, using(std::proofs::lemmas::Bool::Decides::nat_tests), unfolding(crate::specs::Placing::chunk_at))]
+    #[tactic(auto, unfolding(crate::specs::Placing::chunk_at))]
     pub fn chunk_in(self, i: u16, c: u16) -> u16
         requires { IsCell self.d self.d2 i c }
         ensures { result ≡ chunk_at self.d self.d2 i c }
@@ -237,7 +237,7 @@ impl Widths {
     }
 
     // The chunks outside the home rows.
-    #[tactic(auto, using(crate::proofs::Small::wide_outside_le, crate::proofs::Small::narrow_outside_le, crate::proofs::Facts::outside_is, std::proofs::lemmas::Bool::Decides::nat_tests), unfolding(crate::specs::Counts::outside_of))]
+    #[tactic(auto, using(crate::proofs::Small::wide_outside_le, crate::proofs::Small::narrow_outside_le, crate::proofs::Facts::outside_is), unfolding(crate::specs::Counts::outside_of))]
     pub fn outside(self) -> u16
         ensures value { result ≡ outside_of self.d self.d2 }
         ensures counted { result ≡ outside_home (placement self.d self.d2) }
