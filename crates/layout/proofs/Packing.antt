@@ -1,8 +1,11 @@
 -- Labels and their bytes. Assumes nothing.
-use Rattle.std.proofs.Common.{◌≡◌, ℕ, zero, suc, ◌+◌, ◌*◌, ◌/◌, ◌%◌, ◌<◌, ◌≤◌, Bool, true, false, eqb, List, [], ◌∷◌, ◌++◌, length, get_or, take, set, None, Ok, sym, refl, ap, ◌∙◌, arith}
+use Rattle.std.proofs.Common.{◌≡◌, ℕ, zero, suc, ◌+◌, ◌*◌, ◌/◌, ◌%◌, ◌<◌, ◌≤◌, Bool, true, false, eqb, List, [], ◌∷◌, ◌++◌, length, get_or, take, drop, set, None, Ok, sym, refl, ap, ◌∙◌, arith}
 use Rattle.std.proofs.lemmas.List.FromFn.{fill_by_all}
-use Rattle.std.proofs.lemmas.List.{append_assoc, length-set, take_all, take_more, take_more_set}
+use Rattle.std.proofs.lemmas.List.{get_or-take, get_or-drop}
 use Rattle.std.proofs.lemmas.Bool.{cond-false, or_from, not_from_true, eq-eqb, le-ltb}
+use Rattle.std.specs.List.{flat_map}
+use Rattle.std.specs.Simd.{first_chunks}
+use mir.Val.{bool_byte}
 use Rattle.layout.specs.Labels.{packed, flag, label_of, number, label_refusal, ReadsBack}
 use Rattle.layout.specs.Refusals.{plan_refusal, Judged}
 use Rattle.layout.specs.declared.label.Label.{Label}
@@ -50,27 +53,28 @@ flag_is zero h = refl
 flag_is (suc zero) h = refl
 flag_is (suc (suc n)) h = omega (arith, h)
 
-packed_push : (ns : List ℕ) (n : ℕ) → packed (ns ++ n ∷ []) ≡ packed ns ++ (n % 256 ∷ n / 256 ∷ [])
-packed_push [] n = refl
-packed_push (m ∷ ns) n = ap (λ (l : List ℕ). m % 256 ∷ m / 256 ∷ l) (packed_push ns n)
+-- each number as its two bytes
+pub flattened : (ns : List ℕ) (pairs : List (List ℕ)) → length pairs ≡ length ns →
+    ((i : ℕ) → i < length ns → get_or pairs i [] ≡ get_or ns i 0 % 256 ∷ get_or ns i 0 / 256 ∷ []) → flat_map (λ p. p) pairs ≡ packed ns
+flattened [] [] len at = refl
+flattened [] (p ∷ pairs) len at = absurd (omega (arith, len))
+flattened (n ∷ ns) [] len at = absurd (omega (arith, len))
+flattened (n ∷ ns) (p ∷ pairs) len at =
+    let first : p ≡ n % 256 ∷ n / 256 ∷ [] = at 0 (omega arith) in
+    let rest : flat_map (λ p. p) pairs ≡ packed ns = flattened ns pairs (omega (arith, len)) (λ i h. at (suc i) (omega (arith, h))) in
+    rw (first, rest)
 
--- one more number is written
-pub put_more : (bs ns : List ℕ) (i : ℕ) → length bs ≡ 16 → i < 8 → i < length ns → take (2 * i) bs ≡ packed (take i ns) →
-    take (2 * (i + 1)) (set (set bs (2 * i) (get_or ns i 0 % 256)) (2 * i + 1) (get_or ns i 0 / 256)) ≡ packed (take (i + 1) ns)
-put_more bs ns i len h g e =
-    let n : ℕ = get_or ns i 0 in
-    let two : 2 * (i + 1) ≡ 2 * i + 1 + 1 = omega arith in
-    let low : 2 * i < length bs = omega arith in
-    let high : 2 * i + 1 < length (set bs (2 * i) (n % 256)) = omega (arith, length-set bs (2 * i) (n % 256)) in
-    let more : take (2 * i + 1 + 1) (set (set bs (2 * i) (n % 256)) (2 * i + 1) (n / 256)) ≡ packed (take i ns) ++ (n % 256 ∷ n / 256 ∷ []) =
-    (take_more_set (set bs (2 * i) (n % 256)) (2 * i + 1) (n / 256) high ∙
-    (rw (take_more_set bs (2 * i) (n % 256) low, e) (append_assoc (packed (take i ns)) (n % 256 ∷ []) (n / 256 ∷ [])))) in
-    rw two (more ∙ (sym (packed_push (take i ns) n) ∙ ap packed (sym (take_more ns i 0 g))))
+pub flag_byte : (b : Bool) → bool_byte b ≡ flag b
+flag_byte true = refl
+flag_byte false = refl
 
--- all numbers are written
-pub put_all : (bs ns : List ℕ) (i : ℕ) → length bs ≡ 16 → length ns ≡ 8 → 8 ≤ i → take (2 * i) bs ≡ packed (take i ns) → bs ≡ packed ns
-put_all bs ns i len len' h e =
-    sym (take_all (2 * i) bs (omega arith)) ∙ (e ∙ ap packed (take_all i ns (omega arith)))
+-- byte k of pair i
+pub in_pair : (n i k : ℕ) (xs : List ℕ) → i < n → k < 2 → get_or (get_or (first_chunks 2 n xs) i []) k 0 ≡ get_or xs (2 * i + k) 0
+in_pair zero i k xs h g = absurd (omega (arith, h))
+in_pair (suc n) zero k xs h g = let e : 2 * 0 + k ≡ k = omega arith in rw e (get_or-take 2 xs k 0 g)
+in_pair (suc n) (suc i) k xs h g =
+    let e : 2 * suc i + k ≡ 2 + (2 * i + k) = omega arith in
+    rw e (in_pair n i k (drop 2 xs) (omega (arith, h)) g ∙ get_or-drop 2 xs (2 * i + k) 0)
 
 whole : (n : ℕ) → n % 256 + 256 * (n / 256) ≡ n
 whole n = omega arith
