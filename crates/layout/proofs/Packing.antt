@@ -76,6 +76,15 @@ in_pair (suc n) (suc i) k xs h g =
     let e : 2 * suc i + k ≡ 2 + (2 * i + k) = omega arith in
     rw e (in_pair n i k (drop 2 xs) (omega (arith, h)) g ∙ get_or-drop 2 xs (2 * i + k) 0)
 
+-- a pair of bytes is a number of the label
+pub numbered : (bytes : List ℕ) (pairs : List (List ℕ)) (n i : ℕ) → pairs ≡ first_chunks 2 n bytes → i < n →
+    get_or (get_or pairs i []) 0 0 + get_or (get_or pairs i []) 1 0 * 256 ≡ number bytes i
+numbered bytes pairs n i e h =
+    let low : get_or (get_or (first_chunks 2 n bytes) i []) 0 0 ≡ get_or bytes (2 * i + 0) 0 = in_pair n i 0 bytes h (omega arith) in
+    let high : get_or (get_or (first_chunks 2 n bytes) i []) 1 0 ≡ get_or bytes (2 * i + 1) 0 = in_pair n i 1 bytes h (omega arith) in
+    let none : 2 * i + 0 ≡ 2 * i = omega arith in
+    rw (e, low, high, none) (omega arith)
+
 whole : (n : ℕ) → n % 256 + 256 * (n / 256) ≡ n
 whole n = omega arith
 

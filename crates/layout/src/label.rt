@@ -1,5 +1,5 @@
 // The label of a pool, by which it is opened again.
-ghost use Rattle.std.specs.Prelude.{◌≡◌, ◌/◌, ◌%◌, ◌↔◌, [], ◌∷◌, length, slice_index, EachIndex, IsSome, IfSome};
+ghost use Rattle.std.specs.Prelude.{◌≡◌, ◌/◌, ◌%◌, ◌↔◌, ◌<◌, ℕ, [], ◌∷◌, length, slice_index, IsSome, IfSome};
 ghost use Rattle.layout.specs.Labels.{Reads, Writes, ReadsBack, label_of, flag, number, packed};
 ghost use Rattle.layout.specs.Refusals.{not_a_label};
 
@@ -86,11 +86,13 @@ fn low_first(n: u16) -> [u8; 2]
 // The numbers of a label; none where the bytes are not as many as a label has.
 fn numbers_of(bytes: &[u8]) -> Option<[u16; 8]>
     ensures sized { IsSome result ↔ (length bytes.now ≡ 16) }
-    ensures numbers { IfSome result (λ ns. EachIndex ns (λ i. slice_index ns i ≡ number bytes.now i)) }
+    ensures numbers { IfSome result (λ ns. (i : ℕ) → i < 8 → slice_index ns i ≡ number bytes.now i) }
 {
     let (pairs, []) = bytes.as_chunks() else {
         return None;
     };
-    let pairs: [[u8; 2]; 8] = pairs.try_into().ok()?;
+    let Ok(pairs) = <[[u8; 2]; 8]>::try_from(pairs) else {
+        return None;
+    };
     Some(pairs.map(u16::from_le_bytes))
 }

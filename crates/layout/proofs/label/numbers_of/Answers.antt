@@ -1,6 +1,9 @@
-use Rattle.std.proofs.Common.{ℕ, ◌<◌, [], length, arith}
+use Rattle.std.proofs.Common.{ℕ, ◌<◌, ◌/◌, [], length, ◌∙◌, arith}
+use Rattle.layout.proofs.Packing.{numbered}
 use Rattle.layout.proofs.label.numbers_of.Goals as goal
 
 pub returns-clause-numbers : goal.returns-clause-numbers
-returns-clause-numbers c i h = let l = c.map.ensures.items.long in let below : i < 8 = omega (arith, l) in
-   let p = (c.map.ensures.items.at i [] 0 below).2.met in let w = c.in_ok-pairs.ensures in let a = c.try_into.ensures in let x = c.as_chunks.ensures.front in  ?
+returns-clause-numbers c i h =
+    let chunk = c.in-Ok.ensures.1 in
+    let within : i < length c.args.bytes.now / 2 = omega (arith, chunk.long, c.as_chunks.ensures.front_len) in
+    (c.map.ensures.items.at i [] 0 h).2.met ∙ numbered _ _ _ i (chunk.same ∙ c.as_chunks.ensures.front) within
