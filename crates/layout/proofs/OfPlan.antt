@@ -1,6 +1,6 @@
 -- What holds of the numbers and places of a plan. Assumes nothing.
 use Rattle.std.proofs.Common.{◌≡◌, ℕ, ◌+◌, ◌*◌, ◌/◌, ◌%◌, ◌<◌, ◌≤◌, false, None, ◌∙◌, arith}
-use Rattle.std.proofs.lemmas.Nat.{mul-add-lt}
+use Rattle.std.proofs.lemmas.Nat.{mul-le, mul-add-lt}
 use Rattle.std.proofs.lemmas.Bool.{cond-false, or_from, le-ltb}
 use Rattle.layout.specs.Counts.{modules_of, slots_of}
 use Rattle.layout.specs.Placement.{placement}
@@ -50,6 +50,9 @@ module _ (p : Plan) where
 
   pub modules_le : modules_of p.r p.d2 p.r2 ≤ 18
   modules_le = omega (arith, p.data2_range.1, p.parity_range.1, p.parity2_range.1)
+
+  pub stripe_parities_le : p.r2 * stripes_of p.d p.d2 ≤ 4 * 14
+  stripe_parities_le = mul-le _ _ 4 14 p.parity2_range.1 stripes_le
 
   pub stripes_pos : 0 < stripes_of p.d p.d2
   stripes_pos = bounds.stripes_pos sized

@@ -84,37 +84,3 @@ numbered bytes pairs n i e h =
     let high : get_or (get_or (first_chunks 2 n bytes) i []) 1 0 ≡ get_or bytes (2 * i + 1) 0 = in_pair n i 1 bytes h (omega arith) in
     let none : 2 * i + 0 ≡ 2 * i = omega arith in
     rw (e, low, high, none) (omega arith)
-
-whole : (n : ℕ) → n % 256 + 256 * (n / 256) ≡ n
-whole n = omega arith
-
-same_number : (m n : ℕ) → m % 256 + 256 * (m / 256) ≡ n % 256 + 256 * (n / 256) → m ≡ n
-same_number m n e = omega arith
-
-accepted_at : (q d r d' r' L : ℕ) (b : Bool) → plan_refusal q d r d' r' L ≡ None →
-    label_refusal (packed (1 ∷ q ∷ d ∷ r ∷ d' ∷ r' ∷ L ∷ flag b ∷ [])) ≡ None
-accepted_at q d r d' r' L true h = rw (whole q, whole d, whole r, whole d', whole r', whole L) h
-accepted_at q d r d' r' L false h = rw (whole q, whole d, whole r, whole d', whole r', whole L) h
-
-same_flag : (a b : Bool) → flag a % 256 + 256 * (flag a / 256) ≡ flag b % 256 + 256 * (flag b / 256) → a ≡ b
-same_flag true true e = refl
-same_flag true false e = absurd (omega (arith, e))
-same_flag false true e = absurd (omega (arith, e))
-same_flag false false e = refl
-
-pub reads_back : (m : Label) → ReadsBack m
-reads_back m =
-    record {
-      accepted = accepted_at m.plan.order m.plan.d m.plan.r m.plan.d2 m.plan.r2 m.plan.len m.after (planned m.plan);
-      same = λ n e. (
-        record {
-          order_is = same_number _ _ (ap (λ (l : List ℕ). number l 1) e);
-          d_is = same_number _ _ (ap (λ (l : List ℕ). number l 2) e);
-          r_is = same_number _ _ (ap (λ (l : List ℕ). number l 3) e);
-          d2_is = same_number _ _ (ap (λ (l : List ℕ). number l 4) e);
-          r2_is = same_number _ _ (ap (λ (l : List ℕ). number l 5) e);
-          len_is = same_number _ _ (ap (λ (l : List ℕ). number l 6) e);
-        },
-        same_flag n.after m.after (ap (λ (l : List ℕ). number l 7) e),
-      );
-    }

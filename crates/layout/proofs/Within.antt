@@ -13,21 +13,3 @@ inside d n j z h =
       stripe = div_below j d (stripes_of d n) (omega (arith, z.low)) (omega (arith, h, by_stripe z));
       index = mod_below j d (omega (arith, z.low));
     }
-
-module _ (d n s e : ℕ) where
-  pub coeff_wide : d ≤ n → column_of d n s e ≡ coeff_of d n s e
-  unfolding coeff_of
-  coeff_wide h = sym (cond-true (leb d n) _ _ (le-leb d n h))
-
-  pub coeff_narrow : n < d → e / n * n + column_of d n s e ≡ coeff_of d n s e
-  unfolding coeff_of
-  coeff_narrow h = sym (cond-false (leb d n) _ _ (lt-leb d n h))
-
-  coeff_is : e < d → coeff_at d n (s * d + e) ≡ coeff_of d n s e
-  unfolding coeff_at
-  coeff_is h = rw (div-mul-add s d e h, mod-mul-add s d e h)
-
-  pub coeff_below : Sized d n → Inside d n s e → coeff_of d n s e < 28
-  coeff_below z h =
-      let j : s * d + e < chunks_of d n = omega (arith, mul-add-lt s d e (stripes_of d n) h.stripe h.index, by_stripe z) in
-      omega (arith, (placed d n z).promises.x_below (s * d + e) j, coeff_is h.index, reach_le z)

@@ -1,11 +1,12 @@
 // Making a plan, and asking it where its pieces lie.
-ghost use Rattle.std.specs.Prelude.{◌≡◌, ◌≤◌};
+ghost use Rattle.std.specs.Prelude.{◌≡◌, ◌≤◌, true, MatchResult};
 ghost use Rattle.layout.specs.Counts.{data_read, parities_read, modules_of, slots_of};
 ghost use Rattle.layout.specs.Places.{CellOf, HomeOf, ChunkIn, ChunkPlace, ParityPlace};
 ghost use Rattle.layout.specs.Placement.{placement};
 ghost use Rattle.layout.specs.Placing.{chunks_of, stripes_of, rows_of};
 ghost use Rattle.layout.specs.Promises.{outside_home};
-ghost use Rattle.layout.specs.Refusals.{Judged, out_of_range};
+ghost use Rattle.layout.specs.Refusals.{Judged, out_of_range, outside};
+ghost use Rattle.layout.specs.Sizes.{Within};
 
 use crate::numbers::Widths;
 use crate::plan::{Cell, Place, Plan};
@@ -21,26 +22,27 @@ fn out_of_range(place: u16) -> Refusal
     }
 }
 
+// Refuses a number of a plan that is out of its range; place says which of its numbers it is.
+fn check_range(low: u16, high: u16, n: u16, place: u16) -> Result<(), Refusal>
+    ensures { MatchResult result (λ _. Within low high n) (λ e. (outside low high n ≡ true) × (e ≡ out_of_range place)) }
+{
+    if (low..=high).contains(&n) {
+        Ok(())
+    } else {
+        Err(out_of_range(place))
+    }
+}
+
 impl Plan {
     /// Checks the numbers of a rebuild, in order, and makes the plan, or says which rule they break first.
     pub fn new(order: u16, d: u16, r: u16, d2: u16, r2: u16, len: u16) -> Result<Plan, Refusal>
         ensures { Judged order d r d2 r2 len result }
     {
-        if d < 2 || d > 14 {
-            return Err(out_of_range(1));
-        }
-        if r < 1 || r > 4 {
-            return Err(out_of_range(2));
-        }
-        if d2 < 2 || d2 > 14 {
-            return Err(out_of_range(3));
-        }
-        if r2 < 1 || r2 > 4 {
-            return Err(out_of_range(4));
-        }
-        if len < 1 || len > 4096 {
-            return Err(out_of_range(5));
-        }
+        check_range(2, 14, d, 1)?;
+        check_range(1, 4, r, 2)?;
+        check_range(2, 14, d2, 3)?;
+        check_range(1, 4, r2, 4)?;
+        check_range(1, 4096, len, 5)?;
         let b = Widths { d, d2 }.spread();
         if r < b {
             return Err(Refusal {
@@ -106,6 +108,7 @@ impl Plan {
     }
 
     /// S, the slots that the plan needs of each module.
+    #[tactic(auto, using(crate::proofs::OfPlan::stripes_le, crate::proofs::OfPlan::rows_le))]
     pub fn slots(&self) -> u16
         ensures { result ≡ slots_of self.now.d self.now.d2 }
     {
@@ -137,8 +140,7 @@ impl Plan {
     pub fn chunk_place(&self, chunk: u16) -> Option<Place>
         ensures { ChunkPlace self.now.d self.now.d2 chunk result }
     {
-        let cell = self.cell(chunk)?;
-        Some(Place {
+        self.cell(chunk).map(|cell| Place {
             module: cell.column,
             slot: cell.row,
         })
@@ -148,29 +150,25 @@ impl Plan {
     pub fn stripe_parity_place(&self, stripe: u16, parity: u16) -> Option<Place>
         ensures { ParityPlace self.now.d2 0 (stripes_of self.now.d self.now.d2) self.now.r stripe parity result }
     {
-        if stripe >= self.stripes() || parity >= self.r {
-            return None;
-        }
-        Some(Place {
+        (stripe < self.stripes() && parity < self.r).then(|| Place {
             module: self.d2 + parity,
             slot: stripe,
         })
     }
 
     /// The module and slot of a parity of a row.
+    #[tactic(auto, using(crate::proofs::OfPlan::stripes_le, crate::proofs::OfPlan::rows_le))]
     pub fn row_parity_place(&self, row: u16, parity: u16) -> Option<Place>
         ensures { ParityPlace self.now.d2 (stripes_of self.now.d self.now.d2) (rows_of self.now.d self.now.d2) self.now.r2 row parity result }
     {
-        if row >= self.rows() || parity >= self.r2 {
-            return None;
-        }
-        Some(Place {
+        (row < self.rows() && parity < self.r2).then(|| Place {
             module: self.d2 + parity,
             slot: self.stripes() + row,
         })
     }
 
     /// What a changeover reads in all: data chunks, and parity chunks.
+    #[tactic(auto, using(crate::proofs::OfPlan::stripe_parities_le))]
     pub fn counts(&self) -> (u16, u16)
         ensures value { result ≡ (data_read self.now.d self.now.r self.now.d2 self.now.r2, parities_read self.now.d self.now.r self.now.d2 self.now.r2) }
         ensures counted { self.now.r2 ≤ self.now.r → result.0 ≡ outside_home (placement self.now.d self.now.d2) }

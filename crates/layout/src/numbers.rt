@@ -8,6 +8,7 @@ ghost use Rattle.layout.specs.Sizes.{Sized, Inside, IsCell};
 
 use crate::plan::Cell;
 
+#[tactic(auto, using(crate::proofs::Gcd::gcd_step, crate::proofs::Gcd::gcd_none))]
 fn gcd(a: u16, b: u16) -> u16
     ensures { result ≡ gcd_of a b }
 {
@@ -72,7 +73,11 @@ impl Widths {
     pub fn spread(self) -> u16
         ensures { result ≡ spread_of self.d self.d2 }
     {
-        if self.d <= self.d2 { 1 } else { self.d / self.d2 + 1 }
+        if self.d <= self.d2 {
+            1
+        } else {
+            self.d / self.d2 + 1
+        }
     }
 
     // The column at which row i of a wide placement starts.
