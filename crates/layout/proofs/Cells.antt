@@ -1,9 +1,8 @@
 -- How large the numbers on the way to the chunk in a cell are, and the definitions' clauses as equations. Assumes nothing.
-use Rattle.std.proofs.Common.{◌≡◌, ℕ, ◌+◌, ◌-◌, ◌*◌, ◌/◌, ◌%◌, ◌<◌, ◌≤◌, refl, div-le_self, arith}
+use Rattle.std.proofs.Common.{ℕ, ◌+◌, ◌-◌, ◌*◌, ◌/◌, ◌%◌, ◌<◌, ◌≤◌, div-le_self, arith}
 use native.Mathlib.Nat.{mod-le}
-use Rattle.std.proofs.lemmas.Nat.{mul-le, mod_below}
-use Rattle.std.proofs.lemmas.Bool.{cond_below, cond_above}
-use Rattle.layout.specs.Placing.{stripes_of, rows_of, beta_of, start_of, wide_chunk, narrow_chunk}
+use Rattle.std.proofs.lemmas.Nat.{mul-le}
+use Rattle.layout.specs.Placing.{stripes_of, rows_of, beta_of, start_of}
 use Rattle.layout.specs.Sizes.{Sized, IsCell}
 use Rattle.layout.proofs.Bounds.{stripes_le, rows_le, behind_pos}
 use Rattle.layout.proofs.Small.{wide_w_le, w_rows_le, w_stripes_le, narrow_fill_le}

@@ -1,15 +1,14 @@
 -- Labels and their bytes. Assumes nothing.
-use Rattle.std.proofs.Common.{◌≡◌, ℕ, zero, suc, ◌+◌, ◌*◌, ◌/◌, ◌%◌, ◌<◌, ◌≤◌, Bool, true, false, eqb, List, [], ◌∷◌, ◌++◌, length, get_or, take, drop, set, None, Ok, sym, refl, ap, ◌∙◌, arith}
+use Rattle.std.proofs.Common.{◌≡◌, ℕ, zero, suc, ◌+◌, ◌*◌, ◌/◌, ◌%◌, ◌<◌, ◌≤◌, Bool, true, false, eqb, List, [], ◌∷◌, length, get_or, drop, Ok, refl, ap, ◌∙◌, lit<, arith}
 use Rattle.std.proofs.lemmas.List.FromFn.{fill_by_all}
 use Rattle.std.proofs.lemmas.List.{get_or-take, get_or-drop}
 use Rattle.std.proofs.lemmas.Bool.{cond-false, or_from, not_from_true, eq-eqb, le-ltb}
 use Rattle.std.specs.List.{flat_map}
 use Rattle.std.specs.Simd.{first_chunks}
 use mir.Val.{bool_byte}
-use Rattle.layout.specs.Labels.{packed, flag, label_of, number, label_refusal, ReadsBack}
+use Rattle.layout.specs.Labels.{packed, flag, number, label_refusal, Reads}
 use Rattle.layout.specs.Refusals.{plan_refusal, Judged}
-use Rattle.layout.specs.declared.label.Label.{Label}
-use Rattle.layout.proofs.OfPlan.{planned}
+use Rattle.layout.specs.declared.plan.Plan.{Plan}
 
 -- two bytes are those of the number that they make
 pair : (a b : ℕ) (xs ys : List ℕ) → a < 256 → b < 256 → xs ≡ ys → a ∷ b ∷ xs ≡ (a + 256 * b) % 256 ∷ (a + 256 * b) / 256 ∷ ys
@@ -33,25 +32,34 @@ module _ (l : List ℕ) (len : length l ≡ 16) (fit : (k : ℕ) → get_or l k 
       (pair _ _ _ _ (fit 8) (fit 9)
       (pair _ _ _ _ (fit 10) (fit 11) (pair _ _ _ _ (fit 12) (fit 13) (pair _ _ _ _ (fit 14) (fit 15) refl)))))))
 
-  -- bytes that pass the tests are the label that is read
-  pub reads : (m : Label) → number l 0 ≡ 1 → number l 7 ≤ 1 → number l 7 ≡ flag m.after →
-      Judged (number l 1) (number l 2) (number l 3) (number l 4) (number l 5) (number l 6) (Ok m.plan) →
-      (label_refusal l ≡ None) × (l ≡ label_of m)
-  unfolding listed
-  reads m first last after judged =
-      let has = judged.1 in
-      let same : listed ≡ 1 ∷ m.plan.order ∷ m.plan.d ∷ m.plan.r ∷ m.plan.d2 ∷ m.plan.r2 ∷ m.plan.len ∷ flag m.after ∷ [] = cc in (
-        cond-false _ _ _
-            (or_from _ _ (not_from_true _ (eq-eqb _ _ len))
-            (or_from _ _ (not_from_true _ (eq-eqb _ _ first)) (le-ltb 1 (number l 7) last))) ∙ judged.0,
-        numbers ∙ ap packed same,
-      )
-
 -- a flag is 0 or 1
 pub flag_is : (n : ℕ) → n ≤ 1 → n ≡ flag (eqb n 1)
 flag_is zero h = refl
 flag_is (suc zero) h = refl
 flag_is (suc (suc n)) h = omega (arith, h)
+
+-- the numbers ns stand in the bytes l of a label
+module _ (l ns : List ℕ) (len : length l ≡ 16) (at : (i : ℕ) → i < 8 → get_or ns i 0 ≡ number l i) (first : get_or ns 0 0 ≡ 1) (last : get_or ns 7 0 ≤ 1) where
+  -- they are refused as their plan is
+  pub as_plan : label_refusal l ≡ plan_refusal (get_or ns 1 0) (get_or ns 2 0) (get_or ns 3 0) (get_or ns 4 0) (get_or ns 5 0) (get_or ns 6 0)
+  as_plan =
+      let one : number l 0 ≡ 1 = omega (arith, at 0 (lit< tt)) in
+      let flagged : number l 7 ≤ 1 = omega (arith, at 7 (lit< tt)) in
+      rw (at 1 (lit< tt), at 2 (lit< tt), at 3 (lit< tt), at 4 (lit< tt), at 5 (lit< tt), at 6 (lit< tt))
+      (cond-false _ _ _
+      (or_from _ _ (not_from_true _ (eq-eqb _ _ len))
+      (or_from _ _ (not_from_true _ (eq-eqb _ _ one)) (le-ltb 1 (number l 7) flagged))))
+
+  -- where the plan is made, the bytes are those of the label that is read
+  pub reads : ((k : ℕ) → get_or l k 0 < 256) → (p : Plan) →
+      Judged (get_or ns 1 0) (get_or ns 2 0) (get_or ns 3 0) (get_or ns 4 0) (get_or ns 5 0) (get_or ns 6 0) (Ok p) →
+      Reads l (Ok (record { plan = p; after = eqb (get_or ns 7 0) 1 }))
+  unfolding listed
+  reads fit p judged =
+      let has = judged.1 in
+      let same : listed l len fit ≡ 1 ∷ p.order ∷ p.d ∷ p.r ∷ p.d2 ∷ p.r2 ∷ p.len ∷ flag (eqb (get_or ns 7 0) 1) ∷ [] =
+      cc (first, flag_is (get_or ns 7 0) last, at 0 (lit< tt), at 1 (lit< tt), at 2 (lit< tt), at 3 (lit< tt), at 4 (lit< tt), at 5 (lit< tt), at 6 (lit< tt), at 7 (lit< tt)) in
+      (as_plan ∙ judged.0, numbers l len fit ∙ ap packed same)
 
 -- each number as its two bytes
 pub flattened : (ns : List ℕ) (pairs : List (List ℕ)) → length pairs ≡ length ns →

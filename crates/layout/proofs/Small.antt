@@ -1,9 +1,8 @@
 -- How large the numbers on the way to a place are, and the definitions' clauses as equations. Assumes nothing.
-use Rattle.std.proofs.Common.{◌≡◌, ℕ, ◌+◌, ◌-◌, ◌*◌, ◌/◌, ◌%◌, ◌<◌, ◌≤◌, refl, le-div_iff_mul-le, div-le_self, arith}
+use Rattle.std.proofs.Common.{ℕ, ◌-◌, ◌*◌, ◌/◌, ◌%◌, ◌<◌, ◌≤◌, le-div_iff_mul-le, div-le_self, arith}
 use native.Mathlib.Nat.{mod-le}
 use Rattle.std.proofs.lemmas.Nat.{mul-le}
-use Rattle.std.proofs.lemmas.Bool.{cond_below, cond_above}
-use Rattle.layout.specs.Placing.{stripes_of, rows_of, beta_of, start_of, wide_row, wide_column, narrow_row, narrow_column}
+use Rattle.layout.specs.Placing.{stripes_of, rows_of, beta_of}
 use Rattle.layout.specs.Sizes.{Sized}
 use Rattle.layout.proofs.Bounds.{stripes_le, rows_le, split, rest_pos}
 

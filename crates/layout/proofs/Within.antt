@@ -1,11 +1,9 @@
 -- A chunk of a plan has a stripe and an index, and its coefficient column is small. Assumes nothing.
-use Rattle.std.proofs.Common.{◌≡◌, ℕ, ◌+◌, ◌*◌, ◌/◌, ◌%◌, ◌<◌, ◌≤◌, leb, sym, arith}
-use Rattle.std.proofs.lemmas.Nat.{div_below, mod_below, mul-add-lt, div-mul-add, mod-mul-add}
-use Rattle.std.proofs.lemmas.Bool.{cond-true, cond-false, le-leb, lt-leb}
-use Rattle.layout.specs.Placing.{chunks_of, stripes_of, column_of, coeff_of, coeff_at}
+use Rattle.std.proofs.Common.{ℕ, ◌/◌, ◌%◌, ◌<◌, arith}
+use Rattle.std.proofs.lemmas.Nat.{div_below, mod_below}
+use Rattle.layout.specs.Placing.{chunks_of, stripes_of}
 use Rattle.layout.specs.Sizes.{Sized, Inside}
-use Rattle.layout.proofs.Bounds.{by_stripe, reach_le}
-use Rattle.layout.proofs.Facts.{placed}
+use Rattle.layout.proofs.Bounds.{by_stripe}
 
 pub inside : (d n j : ℕ) → Sized d n → j < chunks_of d n → Inside d n (j / d) (j % d)
 inside d n j z h =

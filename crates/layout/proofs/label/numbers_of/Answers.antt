@@ -1,4 +1,4 @@
-use Rattle.std.proofs.Common.{ℕ, ◌<◌, ◌/◌, [], length, ◌∙◌, arith}
+use Rattle.std.proofs.Common.{◌<◌, ◌/◌, [], length, ◌∙◌, arith}
 use Rattle.layout.proofs.Packing.{numbered}
 use Rattle.layout.proofs.label.numbers_of.Goals as goal
 
