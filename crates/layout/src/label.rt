@@ -1,5 +1,6 @@
 // The label of a pool, by which it is opened again.
 ghost use Rattle.std.specs.Prelude.{◌≡◌, ◌/◌, ◌%◌, ◌↔◌, ◌<◌, ℕ, [], ◌∷◌, length, slice_index, IsSome, IfSome};
+ghost use Rattle.std.specs.List.{flat_map};
 ghost use Rattle.layout.specs.Labels.{Reads, Writes, ReadsBack, label_of, flag, number, packed};
 ghost use Rattle.layout.specs.Refusals.{not_a_label};
 
@@ -57,6 +58,7 @@ impl Label {
     }
 
     // Fills a buffer of 16 bytes with the label.
+    #[tactic(auto, using(crate::proofs::Packing::flag_byte))]
     fn put(&self, bytes: &mut [u8])
         requires { length bytes.old ≡ 16 }
         ensures { bytes.new ≡ label_of self.now }
@@ -72,8 +74,15 @@ impl Label {
             plan.len,
             u16::from(self.after),
         ];
-        bytes.copy_from_slice(numbers.map(low_first).as_flattened());
+        bytes.copy_from_slice(pairs_of(numbers).as_flattened());
     }
+}
+
+// The bytes of the numbers of a label, two of each.
+fn pairs_of(numbers: [u16; 8]) -> [[u8; 2]; 8]
+    ensures { flat_map (λ pair. pair) result ≡ packed numbers }
+{
+    numbers.map(low_first)
 }
 
 // The bytes of a number, the low one first.
