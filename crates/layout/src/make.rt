@@ -168,6 +168,7 @@ impl Plan {
     }
 
     /// What a changeover reads in all: data chunks, and parity chunks.
+    // The two counts stay a pair, as the public contract has them.
     #[tactic(auto, using(crate::proofs::OfPlan::stripe_parities_le))]
     pub fn counts(&self) -> (u16, u16)
         ensures value { result ≡ (data_read self.now.d self.now.r self.now.d2 self.now.r2, parities_read self.now.d self.now.r self.now.d2 self.now.r2) }

@@ -8,6 +8,7 @@ ghost use Rattle.layout.specs.Sizes.{Sized, Inside, IsCell};
 
 use crate::plan::Cell;
 
+// The greatest common divisor, by Euclid's steps: the loop counts no index, and std has none.
 #[tactic(auto, using(crate::proofs::Gcd::gcd_step, crate::proofs::Gcd::gcd_none))]
 fn gcd(a: u16, b: u16) -> u16
     ensures { result ≡ gcd_of a b }
@@ -61,6 +62,7 @@ impl Widths {
         self.chunks() / self.d2
     }
 
+    // β of a wide placement: the rows that hold the beginning of a split stripe.
     #[tactic(auto, using(crate::proofs::Bounds::gcd_pos), unfolding(crate::specs::Placing::beta_of))]
     fn beta(self) -> u16
         ensures { result ≡ beta_of self.d self.d2 }
