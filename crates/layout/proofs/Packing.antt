@@ -1,12 +1,14 @@
 -- Labels and their bytes. Assumes nothing.
-use Rattle.std.proofs.Common.{◌≡◌, ℕ, zero, suc, ◌+◌, ◌*◌, ◌/◌, ◌%◌, ◌<◌, ◌≤◌, Bool, true, false, eqb, List, [], ◌∷◌, ◌++◌, length, get_or, take, set, None, Ok, sym, refl, ap, ◌∙◌, arith}
+use Rattle.std.proofs.Common.{◌≡◌, ℕ, zero, suc, ◌+◌, ◌*◌, ◌/◌, ◌%◌, ◌<◌, ◌≤◌, Bool, true, false, eqb, List, [], ◌∷◌, length, get_or, drop, Ok, refl, ap, ◌∙◌, lit<, arith}
 use Rattle.std.proofs.lemmas.List.FromFn.{fill_by_all}
-use Rattle.std.proofs.lemmas.List.{append_assoc, length-set, take_all, take_more, take_more_set}
+use Rattle.std.proofs.lemmas.List.{get_or-take, get_or-drop}
 use Rattle.std.proofs.lemmas.Bool.{cond-false, or_from, not_from_true, eq-eqb, le-ltb}
-use Rattle.layout.specs.Labels.{packed, flag, label_of, number, label_refusal, ReadsBack}
+use Rattle.std.specs.List.{flat_map}
+use Rattle.std.specs.Simd.{first_chunks}
+use mir.Val.{bool_byte}
+use Rattle.layout.specs.Labels.{packed, flag, number, label_refusal, Reads}
 use Rattle.layout.specs.Refusals.{plan_refusal, Judged}
-use Rattle.layout.specs.declared.label.Label.{Label}
-use Rattle.layout.proofs.OfPlan.{planned}
+use Rattle.layout.specs.declared.plan.Plan.{Plan}
 
 -- two bytes are those of the number that they make
 pair : (a b : ℕ) (xs ys : List ℕ) → a < 256 → b < 256 → xs ≡ ys → a ∷ b ∷ xs ≡ (a + 256 * b) % 256 ∷ (a + 256 * b) / 256 ∷ ys
@@ -30,78 +32,63 @@ module _ (l : List ℕ) (len : length l ≡ 16) (fit : (k : ℕ) → get_or l k 
       (pair _ _ _ _ (fit 8) (fit 9)
       (pair _ _ _ _ (fit 10) (fit 11) (pair _ _ _ _ (fit 12) (fit 13) (pair _ _ _ _ (fit 14) (fit 15) refl)))))))
 
-  -- bytes that pass the tests are the label that is read
-  pub reads : (m : Label) → number l 0 ≡ 1 → number l 7 ≤ 1 → number l 7 ≡ flag m.after →
-      Judged (number l 1) (number l 2) (number l 3) (number l 4) (number l 5) (number l 6) (Ok m.plan) →
-      (label_refusal l ≡ None) × (l ≡ label_of m)
-  unfolding listed
-  reads m first last after judged =
-      let has = judged.1 in
-      let same : listed ≡ 1 ∷ m.plan.order ∷ m.plan.d ∷ m.plan.r ∷ m.plan.d2 ∷ m.plan.r2 ∷ m.plan.len ∷ flag m.after ∷ [] = cc in (
-        cond-false _ _ _
-            (or_from _ _ (not_from_true _ (eq-eqb _ _ len))
-            (or_from _ _ (not_from_true _ (eq-eqb _ _ first)) (le-ltb 1 (number l 7) last))) ∙ judged.0,
-        numbers ∙ ap packed same,
-      )
-
 -- a flag is 0 or 1
 pub flag_is : (n : ℕ) → n ≤ 1 → n ≡ flag (eqb n 1)
 flag_is zero h = refl
 flag_is (suc zero) h = refl
 flag_is (suc (suc n)) h = omega (arith, h)
 
-packed_push : (ns : List ℕ) (n : ℕ) → packed (ns ++ n ∷ []) ≡ packed ns ++ (n % 256 ∷ n / 256 ∷ [])
-packed_push [] n = refl
-packed_push (m ∷ ns) n = ap (λ (l : List ℕ). m % 256 ∷ m / 256 ∷ l) (packed_push ns n)
+-- the numbers ns stand in the bytes l of a label
+module _ (l ns : List ℕ) (len : length l ≡ 16) (at : (i : ℕ) → i < 8 → get_or ns i 0 ≡ number l i) (first : get_or ns 0 0 ≡ 1) (last : get_or ns 7 0 ≤ 1) where
+  -- they are refused as their plan is
+  pub as_plan : label_refusal l ≡ plan_refusal (get_or ns 1 0) (get_or ns 2 0) (get_or ns 3 0) (get_or ns 4 0) (get_or ns 5 0) (get_or ns 6 0)
+  as_plan =
+      let one : number l 0 ≡ 1 = omega (arith, at 0 (lit< tt)) in
+      let flagged : number l 7 ≤ 1 = omega (arith, at 7 (lit< tt)) in
+      rw (at 1 (lit< tt), at 2 (lit< tt), at 3 (lit< tt), at 4 (lit< tt), at 5 (lit< tt), at 6 (lit< tt))
+      (cond-false _ _ _
+      (or_from _ _ (not_from_true _ (eq-eqb _ _ len))
+      (or_from _ _ (not_from_true _ (eq-eqb _ _ one)) (le-ltb 1 (number l 7) flagged))))
 
--- one more number is written
-pub put_more : (bs ns : List ℕ) (i : ℕ) → length bs ≡ 16 → i < 8 → i < length ns → take (2 * i) bs ≡ packed (take i ns) →
-    take (2 * (i + 1)) (set (set bs (2 * i) (get_or ns i 0 % 256)) (2 * i + 1) (get_or ns i 0 / 256)) ≡ packed (take (i + 1) ns)
-put_more bs ns i len h g e =
-    let n : ℕ = get_or ns i 0 in
-    let two : 2 * (i + 1) ≡ 2 * i + 1 + 1 = omega arith in
-    let low : 2 * i < length bs = omega arith in
-    let high : 2 * i + 1 < length (set bs (2 * i) (n % 256)) = omega (arith, length-set bs (2 * i) (n % 256)) in
-    let more : take (2 * i + 1 + 1) (set (set bs (2 * i) (n % 256)) (2 * i + 1) (n / 256)) ≡ packed (take i ns) ++ (n % 256 ∷ n / 256 ∷ []) =
-    (take_more_set (set bs (2 * i) (n % 256)) (2 * i + 1) (n / 256) high ∙
-    (rw (take_more_set bs (2 * i) (n % 256) low, e) (append_assoc (packed (take i ns)) (n % 256 ∷ []) (n / 256 ∷ [])))) in
-    rw two (more ∙ (sym (packed_push (take i ns) n) ∙ ap packed (sym (take_more ns i 0 g))))
+  -- where the plan is made, the bytes are those of the label that is read
+  pub reads : ((k : ℕ) → get_or l k 0 < 256) → (p : Plan) →
+      Judged (get_or ns 1 0) (get_or ns 2 0) (get_or ns 3 0) (get_or ns 4 0) (get_or ns 5 0) (get_or ns 6 0) (Ok p) →
+      Reads l (Ok (record { plan = p; after = eqb (get_or ns 7 0) 1 }))
+  unfolding listed
+  reads fit p judged =
+      let has = judged.1 in
+      let same : listed l len fit ≡ 1 ∷ p.order ∷ p.d ∷ p.r ∷ p.d2 ∷ p.r2 ∷ p.len ∷ flag (eqb (get_or ns 7 0) 1) ∷ [] =
+      cc (first, flag_is (get_or ns 7 0) last, at 0 (lit< tt), at 1 (lit< tt), at 2 (lit< tt), at 3 (lit< tt), at 4 (lit< tt), at 5 (lit< tt), at 6 (lit< tt), at 7 (lit< tt)) in
+      (as_plan ∙ judged.0, numbers l len fit ∙ ap packed same)
 
--- all numbers are written
-pub put_all : (bs ns : List ℕ) (i : ℕ) → length bs ≡ 16 → length ns ≡ 8 → 8 ≤ i → take (2 * i) bs ≡ packed (take i ns) → bs ≡ packed ns
-put_all bs ns i len len' h e =
-    sym (take_all (2 * i) bs (omega arith)) ∙ (e ∙ ap packed (take_all i ns (omega arith)))
+-- each number as its two bytes
+pub flattened : (ns : List ℕ) (pairs : List (List ℕ)) → length pairs ≡ length ns →
+    ((i : ℕ) → i < length ns → get_or pairs i [] ≡ get_or ns i 0 % 256 ∷ get_or ns i 0 / 256 ∷ []) → flat_map (λ p. p) pairs ≡ packed ns
+flattened [] [] len at = refl
+flattened [] (p ∷ pairs) len at = absurd (omega (arith, len))
+flattened (n ∷ ns) [] len at = absurd (omega (arith, len))
+flattened (n ∷ ns) (p ∷ pairs) len at =
+    let first : p ≡ n % 256 ∷ n / 256 ∷ [] = at 0 (omega arith) in
+    let rest : flat_map (λ p. p) pairs ≡ packed ns = flattened ns pairs (omega (arith, len)) (λ i h. at (suc i) (omega (arith, h))) in
+    rw (first, rest)
 
-whole : (n : ℕ) → n % 256 + 256 * (n / 256) ≡ n
-whole n = omega arith
+pub flag_byte : (b : Bool) → bool_byte b ≡ flag b
+flag_byte true = refl
+flag_byte false = refl
 
-same_number : (m n : ℕ) → m % 256 + 256 * (m / 256) ≡ n % 256 + 256 * (n / 256) → m ≡ n
-same_number m n e = omega arith
+-- byte k of pair i
+pub in_pair : (n i k : ℕ) (xs : List ℕ) → i < n → k < 2 → get_or (get_or (first_chunks 2 n xs) i []) k 0 ≡ get_or xs (2 * i + k) 0
+in_pair zero i k xs h g = absurd (omega (arith, h))
+in_pair (suc n) zero k xs h g = let e : 2 * 0 + k ≡ k = omega arith in rw e (get_or-take 2 xs k 0 g)
+in_pair (suc n) (suc i) k xs h g =
+    let e : 2 * suc i + k ≡ 2 + (2 * i + k) = omega arith in
+    rw e (in_pair n i k (drop 2 xs) (omega (arith, h)) g ∙ get_or-drop 2 xs (2 * i + k) 0)
 
-accepted_at : (q d r d' r' L : ℕ) (b : Bool) → plan_refusal q d r d' r' L ≡ None →
-    label_refusal (packed (1 ∷ q ∷ d ∷ r ∷ d' ∷ r' ∷ L ∷ flag b ∷ [])) ≡ None
-accepted_at q d r d' r' L true h = rw (whole q, whole d, whole r, whole d', whole r', whole L) h
-accepted_at q d r d' r' L false h = rw (whole q, whole d, whole r, whole d', whole r', whole L) h
-
-same_flag : (a b : Bool) → flag a % 256 + 256 * (flag a / 256) ≡ flag b % 256 + 256 * (flag b / 256) → a ≡ b
-same_flag true true e = refl
-same_flag true false e = absurd (omega (arith, e))
-same_flag false true e = absurd (omega (arith, e))
-same_flag false false e = refl
-
-pub reads_back : (m : Label) → ReadsBack m
-reads_back m =
-    record {
-      accepted = accepted_at m.plan.order m.plan.d m.plan.r m.plan.d2 m.plan.r2 m.plan.len m.after (planned m.plan);
-      same = λ n e. (
-        record {
-          order_is = same_number _ _ (ap (λ (l : List ℕ). number l 1) e);
-          d_is = same_number _ _ (ap (λ (l : List ℕ). number l 2) e);
-          r_is = same_number _ _ (ap (λ (l : List ℕ). number l 3) e);
-          d2_is = same_number _ _ (ap (λ (l : List ℕ). number l 4) e);
-          r2_is = same_number _ _ (ap (λ (l : List ℕ). number l 5) e);
-          len_is = same_number _ _ (ap (λ (l : List ℕ). number l 6) e);
-        },
-        same_flag n.after m.after (ap (λ (l : List ℕ). number l 7) e),
-      );
-    }
+-- a pair of bytes is a number of the label
+pub numbered : (bytes : List ℕ) (pairs : List (List ℕ)) (n i : ℕ) → pairs ≡ first_chunks 2 n bytes → i < n →
+    get_or (get_or pairs i []) 0 0 + get_or (get_or pairs i []) 1 0 * 256 ≡ number bytes i
+numbered bytes pairs n i e h =
+    let low : get_or (get_or (first_chunks 2 n bytes) i []) 0 0 ≡ get_or bytes (2 * i + 0) 0 = in_pair n i 0 bytes h (omega arith) in
+    let high : get_or (get_or (first_chunks 2 n bytes) i []) 1 0 ≡ get_or bytes (2 * i + 1) 0 = in_pair n i 1 bytes h (omega arith) in
+    let none : 2 * i + 0 ≡ 2 * i = omega arith in
+    rw (e, low, high, none) (omega arith)

@@ -1,93 +1,55 @@
 -- How large the numbers on the way to a place are, and the definitions' clauses as equations. Assumes nothing.
-use Rattle.std.proofs.Common.{◌≡◌, ℕ, ◌+◌, ◌-◌, ◌*◌, ◌/◌, ◌%◌, ◌<◌, ◌≤◌, refl, le-div_iff_mul-le, div-le_self, arith}
+use Rattle.std.proofs.Common.{ℕ, ◌-◌, ◌*◌, ◌/◌, ◌%◌, ◌<◌, ◌≤◌, le-div_iff_mul-le, div-le_self, arith}
 use native.Mathlib.Nat.{mod-le}
 use Rattle.std.proofs.lemmas.Nat.{mul-le}
-use Rattle.std.proofs.lemmas.Bool.{cond_below, cond_above}
-use Rattle.layout.specs.Placing.{stripes_of, rows_of, beta_of, start_of, wide_row, wide_column, narrow_row, narrow_column}
-use Rattle.layout.specs.Sizes.{Inside}
+use Rattle.layout.specs.Placing.{stripes_of, rows_of, beta_of}
+use Rattle.layout.specs.Sizes.{Sized}
 use Rattle.layout.proofs.Bounds.{stripes_le, rows_le, split, rest_pos}
 
-module _ (d n s e : ℕ) (h : Inside d n s e) where
-  pub s_le : s ≤ 13
-  s_le = omega (arith, stripes_le h.sized, h.stripe)
+module _ {d n : ℕ} (z : Sized d n) where
+  pub wide_w_le : n / d ≤ 14
+  wide_w_le = omega (arith, div-le_self n d, z.high')
 
-  pub s_mod_le : s * (d % n) ≤ 13 * 14
-  s_mod_le = mul-le s (d % n) 13 14 s_le (omega (arith, mod-le d n, h.sized.high))
-
-  pub s_div_le : s * (d / n) ≤ 13 * 14
-  s_div_le = mul-le s (d / n) 13 14 s_le (omega (arith, div-le_self d n, h.sized.high))
-
-  pub w_stripes_le : d / n * stripes_of d n ≤ 14 * 14
-  w_stripes_le = mul-le (d / n) (stripes_of d n) 14 14 (omega (arith, div-le_self d n, h.sized.high)) (stripes_le h.sized)
+  pub narrow_w_le : d / n ≤ 14
+  narrow_w_le = omega (arith, div-le_self d n, z.high)
 
   pub w_rows_le : n / d * rows_of d n ≤ 14 * 14
-  w_rows_le = mul-le (n / d) (rows_of d n) 14 14 (omega (arith, div-le_self n d, h.sized.high')) (rows_le h.sized)
+  w_rows_le = mul-le (n / d) (rows_of d n) 14 14 wide_w_le (rows_le z)
 
-  pub i_le : s - n / d * rows_of d n ≤ 13
-  i_le = omega (arith, s_le)
+  pub w_stripes_le : d / n * stripes_of d n ≤ 14 * 14
+  w_stripes_le = mul-le (d / n) (stripes_of d n) 14 14 narrow_w_le (stripes_le z)
 
-  pub i_rest_le : (s - n / d * rows_of d n) * (d - n % d) ≤ 13 * 14
-  i_rest_le = mul-le _ _ 13 14 i_le (omega (arith, h.sized.high))
-
-  -- a chunk past the whole stripes: there is a rest
-  pub z_pos : d ≤ n → n / d * rows_of d n ≤ s → 0 < n % d
-  z_pos le past = rest_pos h.sized (omega (arith, split h.sized le, h.stripe))
+  pub narrow_fill_le : d / n * n ≤ 14 * 14
+  narrow_fill_le = mul-le (d / n) n 14 14 narrow_w_le z.high'
 
   pub beta_le : d ≤ n → beta_of d n ≤ 14
-  beta_le le = omega (arith, split h.sized le, stripes_le h.sized)
+  beta_le wide = omega (arith, split z wide, stripes_le z)
 
-  pub past_whole : 0 < n → d / n ≤ e / n → d / n * n ≤ e
-  past_whole p q = (le-div_iff_mul-le {k = n} p).0 q
+  pub past_whole : (e : ℕ) → d / n ≤ e / n → d / n * n ≤ e
+  past_whole e = (le-div_iff_mul-le {k = n} (omega (arith, z.low'))).0
 
-module _ (d n s e : ℕ) where
-  pub wide_row_whole : s < n / d * rows_of d n → s / (n / d) ≡ wide_row d n s e
-  unfolding wide_row
-  wide_row_whole h = cond_below s (n / d * rows_of d n) _ _ h
+  pub wide_outside_le : d ≤ n → beta_of d n * (d - n % d) ≤ 14 * 14
+  wide_outside_le wide = mul-le _ _ 14 14 (beta_le wide) (omega (arith, z.high))
 
-  pub wide_row_head : n / d * rows_of d n ≤ s → e < n % d → s - n / d * rows_of d n ≡ wide_row d n s e
-  unfolding wide_row
-  wide_row_head h g = cond_above s (n / d * rows_of d n) _ _ _ h (cond_below e (n % d) _ _ g)
+  pub narrow_outside_le : stripes_of d n * (d - n) ≤ 14 * 14
+  narrow_outside_le = mul-le _ _ 14 14 (stripes_le z) (omega (arith, z.high))
 
-  pub wide_row_tail : n / d * rows_of d n ≤ s → n % d ≤ e →
-      beta_of d n + ((s - n / d * rows_of d n) * (d - n % d) + e - n % d) / (n % d) ≡ wide_row d n s e
-  unfolding wide_row
-  wide_row_tail h g = cond_above s (n / d * rows_of d n) _ _ _ h (cond_above e (n % d) _ _ _ g refl)
+module _ {d n s : ℕ} (z : Sized d n) (h : s < stripes_of d n) where
+  pub s_le : s ≤ 13
+  s_le = omega (arith, stripes_le z, h)
 
-  pub wide_column_whole : s < n / d * rows_of d n → (start_of d n (s / (n / d)) + s % (n / d) * d + e) % n ≡ wide_column d n s e
-  unfolding wide_column
-  wide_column_whole h = cond_below s (n / d * rows_of d n) _ _ h
+  pub s_mod_le : s * (d % n) ≤ 13 * 14
+  s_mod_le = mul-le s (d % n) 13 14 s_le (omega (arith, mod-le d n, z.high))
 
-  pub wide_column_head : n / d * rows_of d n ≤ s → e < n % d →
-      (start_of d n (s - n / d * rows_of d n) + n / d * d + e) % n ≡ wide_column d n s e
-  unfolding wide_column
-  wide_column_head h g = cond_above s (n / d * rows_of d n) _ _ _ h (cond_below e (n % d) _ _ g)
+  pub s_div_le : s * (d / n) ≤ 13 * 14
+  s_div_le = mul-le s (d / n) 13 14 s_le (narrow_w_le z)
 
-  pub wide_column_tail : n / d * rows_of d n ≤ s → n % d ≤ e →
-      ((s - n / d * rows_of d n) * (d - n % d) + e - n % d) % n ≡ wide_column d n s e
-  unfolding wide_column
-  wide_column_tail h g = cond_above s (n / d * rows_of d n) _ _ _ h (cond_above e (n % d) _ _ _ g refl)
+  pub i_rest_le : (s - n / d * rows_of d n) * (d - n % d) ≤ 13 * 14
+  i_rest_le = mul-le _ _ 13 14 (omega (arith, s_le)) (omega (arith, z.high))
 
-  pub narrow_row_whole : e / n < d / n → s * (d / n) + e / n ≡ narrow_row d n s e
-  unfolding narrow_row
-  narrow_row_whole h = cond_below (e / n) (d / n) _ _ h
+  -- a stripe past the whole ones: there is a rest
+  pub wide_rest_pos : d ≤ n → n / d * rows_of d n ≤ s → 0 < n % d
+  wide_rest_pos wide past = rest_pos z (omega (arith, split z wide, h))
 
-  pub narrow_row_tail : d / n ≤ e / n → d / n * stripes_of d n + (s * (d % n) + e - d / n * n) / n ≡ narrow_row d n s e
-  unfolding narrow_row
-  narrow_row_tail h = cond_above (e / n) (d / n) _ _ _ h refl
-
-  pub narrow_column_whole : e / n < d / n → e % n ≡ narrow_column d n s e
-  unfolding narrow_column
-  narrow_column_whole h = cond_below (e / n) (d / n) _ _ h
-
-  pub narrow_column_tail : d / n ≤ e / n → (s * (d % n) + e - d / n * n) % n ≡ narrow_column d n s e
-  unfolding narrow_column
-  narrow_column_tail h = cond_above (e / n) (d / n) _ _ _ h refl
-
-module _ (d n i : ℕ) where
-  pub start_low : i < beta_of d n → i * (d - n % d) % n ≡ start_of d n i
-  unfolding start_of
-  start_low h = cond_below i (beta_of d n) _ _ h
-
-  pub start_high : beta_of d n ≤ i → (i - beta_of d n + 1) * (n % d) % n ≡ start_of d n i
-  unfolding start_of
-  start_high h = cond_above i (beta_of d n) _ _ _ h refl
+-- what keeps the numbers on the way to a place small
+pub ruleset on_the_way = (stripes_le, narrow_w_le, w_rows_le, w_stripes_le, beta_le, past_whole, s_mod_le, s_div_le, i_rest_le, wide_rest_pos)

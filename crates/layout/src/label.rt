@@ -1,5 +1,6 @@
 // The label of a pool, by which it is opened again.
-ghost use Rattle.std.specs.Prelude.{◌≡◌, ◌<◌, length};
+ghost use Rattle.std.specs.Prelude.{◌≡◌, ◌/◌, ◌%◌, ◌↔◌, ◌<◌, ℕ, [], ◌∷◌, length, slice_index, IsSome, IfSome};
+ghost use Rattle.std.specs.List.{flat_map};
 ghost use Rattle.layout.specs.Labels.{Reads, Writes, ReadsBack, label_of, flag, number, packed};
 
 use crate::plan::Plan;
@@ -20,21 +21,13 @@ impl Label {
     pub fn read(bytes: &[u8]) -> Result<Label, Refusal>
         ensures { Reads bytes.now result }
     {
-        if bytes.len() != LABEL_BYTES {
+        let Some(numbers) = numbers_of(bytes) else {
             return Err(Refusal::NotALabel);
-        }
-        let flag = number_at(bytes, 7);
-        if number_at(bytes, 0) != 1 || flag > 1 {
+        };
+        let [1, order, d, r, d2, r2, len, flag @ 0..=1] = numbers else {
             return Err(Refusal::NotALabel);
-        }
-        let plan = Plan::new(
-            number_at(bytes, 1),
-            number_at(bytes, 2),
-            number_at(bytes, 3),
-            number_at(bytes, 4),
-            number_at(bytes, 5),
-            number_at(bytes, 6),
-        )?;
+        };
+        let plan = Plan::new(order, d, r, d2, r2, len)?;
         Ok(Label {
             plan,
             after: flag == 1,
@@ -54,43 +47,50 @@ impl Label {
     }
 
     // Fills a buffer of 16 bytes with the label.
+    #[tactic(auto, using(crate::proofs::Packing::flag_byte))]
     fn put(&self, bytes: &mut [u8])
         requires { length bytes.old ≡ 16 }
         ensures { bytes.new ≡ label_of self.now }
     {
         let plan = self.plan;
-        let after = flag_number(self.after);
-        put_numbers(
-            bytes,
-            &[
-                1, plan.order, plan.d, plan.r, plan.d2, plan.r2, plan.len, after,
-            ],
-        );
+        let numbers = [
+            1,
+            plan.order,
+            plan.d,
+            plan.r,
+            plan.d2,
+            plan.r2,
+            plan.len,
+            u16::from(self.after),
+        ];
+        bytes.copy_from_slice(pairs_of(numbers).as_flattened());
     }
 }
 
-// 1 where the pool is after its changeover, else 0.
-fn flag_number(after: bool) -> u16
-    ensures { result ≡ flag after }
+// The bytes of the numbers of a label, two of each.
+fn pairs_of(numbers: [u16; 8]) -> [[u8; 2]; 8]
+    ensures { flat_map (λ pair. pair) result ≡ packed numbers }
 {
-    if after { 1 } else { 0 }
+    numbers.map(low_first)
 }
 
-// Number i of a label, counted from 0.
-fn number_at(bytes: &[u8], i: usize) -> u16
-    requires { (length bytes.now ≡ 16) × (i < 8) }
-    ensures { result ≡ number bytes.now i }
+// The bytes of a number, the low one first.
+fn low_first(n: u16) -> [u8; 2]
+    ensures { result ≡ n % 256 ∷ n / 256 ∷ [] }
 {
-    u16::from_le_bytes([bytes[2 * i], bytes[2 * i + 1]])
+    n.to_le_bytes()
 }
 
-// Writes the numbers of a label, the low byte of each first.
-fn put_numbers(bytes: &mut [u8], numbers: &[u16; 8])
-    requires { length bytes.old ≡ 16 }
-    ensures { bytes.new ≡ packed numbers.now }
+// The numbers of a label; none where the bytes are not as many as a label has.
+fn numbers_of(bytes: &[u8]) -> Option<[u16; 8]>
+    ensures sized { IsSome result ↔ (length bytes.now ≡ 16) }
+    ensures numbers { IfSome result (λ ns. (i : ℕ) → i < 8 → slice_index ns i ≡ number bytes.now i) }
 {
-    for (i, n) in numbers.iter().enumerate() {
-        bytes[2 * i] = (n % 256) as u8;
-        bytes[2 * i + 1] = (n / 256) as u8;
-    }
+    let (pairs, []) = bytes.as_chunks() else {
+        return None;
+    };
+    let Ok(pairs) = <[[u8; 2]; 8]>::try_from(pairs) else {
+        return None;
+    };
+    Some(pairs.map(u16::from_le_bytes))
 }

@@ -1,11 +1,15 @@
-// The numbers of a plan: its chunks, stripes and rows, and where a chunk stands.
+// The numbers of a placement of chunks: how many there are, and where each stands.
 ghost use Rattle.std.specs.Prelude.{◌≡◌, ◌<◌, ◌≤◌};
-ghost use Rattle.layout.specs.Placing.{gcd_of, chunks_of, stripes_of, rows_of, beta_of, start_of, wide_row, wide_column, narrow_row, narrow_column, row_of, column_of, home_of, coeff_of, spread_of, wide_chunk, narrow_chunk, chunk_at, row_at, column_at, coeff_at};
+ghost use Rattle.layout.specs.Placing.{gcd_of, chunks_of, stripes_of, rows_of, beta_of, start_of, wide_row, wide_column, narrow_row, narrow_column, home_of, spread_of, wide_chunk, narrow_chunk, chunk_at, row_at, column_at, coeff_at};
 ghost use Rattle.layout.specs.Counts.{outside_of};
 ghost use Rattle.layout.specs.Placement.{placement};
 ghost use Rattle.layout.specs.Promises.{outside_home};
-ghost use Rattle.layout.specs.Sizes.{Sized, Inside, Chunk, Cell};
+ghost use Rattle.layout.specs.Sizes.{Sized, Inside, IsCell};
 
+use crate::plan::Cell;
+
+// The greatest common divisor, by Euclid's steps: the loop counts no index, and std has none.
+#[tactic(auto, using(crate::proofs::Gcd::gcd_step, crate::proofs::Gcd::gcd_none))]
 fn gcd(a: u16, b: u16) -> u16
     ensures { result ≡ gcd_of a b }
 {
@@ -19,231 +23,236 @@ fn gcd(a: u16, b: u16) -> u16
     x
 }
 
-pub fn chunks(d: u16, n: u16) -> u16
-    requires { Sized d n }
-    ensures { result ≡ chunks_of d n }
-{
-    d * n / gcd(d, n)
+/// The two widths of a placement: every number of it follows from them. It is wide if d ≤ d2, else narrow.
+#[derive(Clone, Copy)]
+pub(crate) struct Widths {
+    /// data chunks of a stripe
+    pub d: u16,
+    /// data chunks of a row
+    pub d2: u16,
+    ghost sized: { Sized d d2 },
 }
 
-pub fn stripes(d: u16, n: u16) -> u16
-    requires { Sized d n }
-    ensures { result ≡ stripes_of d n }
-{
-    chunks(d, n) / d
+/// Where a chunk stands.
+#[derive(Clone, Copy)]
+struct Spot {
+    row: u16,
+    column: u16,
 }
 
-pub fn rows(d: u16, n: u16) -> u16
-    requires { Sized d n }
-    ensures { result ≡ rows_of d n }
-{
-    chunks(d, n) / n
-}
-
-fn beta(d: u16, n: u16) -> u16
-    requires { Sized d n }
-    ensures { result ≡ beta_of d n }
-{
-    n % d / gcd(d, n)
-}
-
-pub fn spread(d: u16, n: u16) -> u16
-    requires { Sized d n }
-    ensures { result ≡ spread_of d n }
-{
-    if d <= n { 1 } else { d / n + 1 }
-}
-
-// The column at which row i of a wide plan starts.
-fn start(d: u16, n: u16, i: u16) -> u16
-    requires { (Sized d n) × (i ≤ 14) }
-    ensures { (result ≡ start_of d n i) × (result < n) }
-{
-    let z = n % d;
-    let b = beta(d, n);
-    if i < b {
-        i * (d - z) % n
-    } else {
-        (i - b + 1) * z % n
+impl Widths {
+    #[tactic(auto, using(crate::proofs::Bounds::gcd_pos), unfolding(crate::specs::Placing::chunks_of))]
+    pub fn chunks(self) -> u16
+        ensures { result ≡ chunks_of self.d self.d2 }
+    {
+        self.d * self.d2 / gcd(self.d, self.d2)
     }
-}
 
-fn wide_row(d: u16, n: u16, s: u16, e: u16) -> u16
-    requires { (Inside d n s e) × (d ≤ n) }
-    ensures { result ≡ wide_row d n s e }
-{
-    let w = n / d;
-    let z = n % d;
-    let whole = w * rows(d, n);
-    if s < whole {
-        return s / w;
+    #[tactic(auto, unfolding(crate::specs::Placing::stripes_of))]
+    pub fn stripes(self) -> u16
+        ensures { result ≡ stripes_of self.d self.d2 }
+    {
+        self.chunks() / self.d
     }
-    let i = s - whole;
-    if e < z {
-        return i;
+
+    #[tactic(auto, unfolding(crate::specs::Placing::rows_of))]
+    pub fn rows(self) -> u16
+        ensures { result ≡ rows_of self.d self.d2 }
+    {
+        self.chunks() / self.d2
     }
-    beta(d, n) + (i * (d - z) + e - z) / z
-}
 
-fn wide_column(d: u16, n: u16, s: u16, e: u16) -> u16
-    requires { (Inside d n s e) × (d ≤ n) }
-    ensures { result ≡ wide_column d n s e }
-{
-    let w = n / d;
-    let z = n % d;
-    let whole = w * rows(d, n);
-    if s < whole {
-        return (start(d, n, s / w) + s % w * d + e) % n;
+    // β of a wide placement: the rows that hold the beginning of a split stripe.
+    #[tactic(auto, using(crate::proofs::Bounds::gcd_pos), unfolding(crate::specs::Placing::beta_of))]
+    fn beta(self) -> u16
+        ensures { result ≡ beta_of self.d self.d2 }
+    {
+        self.d2 % self.d / gcd(self.d, self.d2)
     }
-    let i = s - whole;
-    if e < z {
-        return (start(d, n, i) + w * d + e) % n;
+
+    // The most chunks of one stripe that a column may hold.
+    #[tactic(auto, unfolding(crate::specs::Placing::spread_of))]
+    pub fn spread(self) -> u16
+        ensures { result ≡ spread_of self.d self.d2 }
+    {
+        if self.d <= self.d2 {
+            1
+        } else {
+            self.d / self.d2 + 1
+        }
     }
-    (i * (d - z) + e - z) % n
-}
 
-fn narrow_row(d: u16, n: u16, s: u16, e: u16) -> u16
-    requires { (Inside d n s e) × (n < d) }
-    ensures { result ≡ narrow_row d n s e }
-{
-    let w = d / n;
-    if e / n < w {
-        s * w + e / n
-    } else {
-        w * stripes(d, n) + (s * (d % n) + e - w * n) / n
+    // The column at which row i of a wide placement starts.
+    #[tactic(auto, unfolding(crate::specs::Placing::start_of))]
+    fn start(self, i: u16) -> u16
+        requires { i ≤ 14 }
+        ensures value { result ≡ start_of self.d self.d2 i }
+        ensures column { result < self.d2 }
+    {
+        let z = self.d2 % self.d;
+        let b = self.beta();
+        if i < b {
+            i * (self.d - z) % self.d2
+        } else {
+            (i - b + 1) * z % self.d2
+        }
     }
-}
 
-fn narrow_column(d: u16, n: u16, s: u16, e: u16) -> u16
-    requires { (Inside d n s e) × (n < d) }
-    ensures { result ≡ narrow_column d n s e }
-{
-    let w = d / n;
-    if e / n < w {
-        e % n
-    } else {
-        (s * (d % n) + e - w * n) % n
+    // Where index e of stripe s stands in a wide placement.
+    #[tactic(auto, using(crate::proofs::Small::on_the_way), unfolding(crate::specs::Placing::wide_row, crate::specs::Placing::wide_column))]
+    fn wide_spot(self, s: u16, e: u16) -> Spot
+        requires inside { Inside self.d self.d2 s e }
+        requires wide { self.d ≤ self.d2 }
+        ensures row { result.row ≡ wide_row self.d self.d2 s e }
+        ensures column { result.column ≡ wide_column self.d self.d2 s e }
+    {
+        let w = self.d2 / self.d;
+        let z = self.d2 % self.d;
+        let whole = w * self.rows();
+        if s < whole {
+            return Spot {
+                row: s / w,
+                column: (self.start(s / w) + s % w * self.d + e) % self.d2,
+            };
+        }
+        let i = s - whole;
+        if e < z {
+            return Spot {
+                row: i,
+                column: (self.start(i) + w * self.d + e) % self.d2,
+            };
+        }
+        let rest = i * (self.d - z) + e - z;
+        Spot {
+            row: self.beta() + rest / z,
+            column: rest % self.d2,
+        }
     }
-}
 
-// Where index e of stripe s stands.
-fn row_of(d: u16, n: u16, s: u16, e: u16) -> u16
-    requires { Inside d n s e }
-    ensures { result ≡ row_of d n s e }
-{
-    if d <= n {
-        wide_row(d, n, s, e)
-    } else {
-        narrow_row(d, n, s, e)
+    // Where index e of stripe s stands in a narrow placement.
+    #[tactic(auto, using(crate::proofs::Small::on_the_way), unfolding(crate::specs::Placing::narrow_row, crate::specs::Placing::narrow_column))]
+    fn narrow_spot(self, s: u16, e: u16) -> Spot
+        requires inside { Inside self.d self.d2 s e }
+        requires narrow { self.d2 < self.d }
+        ensures row { result.row ≡ narrow_row self.d self.d2 s e }
+        ensures column { result.column ≡ narrow_column self.d self.d2 s e }
+        ensures below { result.column < self.d2 }
+    {
+        let w = self.d / self.d2;
+        if e / self.d2 < w {
+            return Spot {
+                row: s * w + e / self.d2,
+                column: e % self.d2,
+            };
+        }
+        let rest = s * (self.d % self.d2) + e - w * self.d2;
+        Spot {
+            row: w * self.stripes() + rest / self.d2,
+            column: rest % self.d2,
+        }
     }
-}
 
-fn column_of(d: u16, n: u16, s: u16, e: u16) -> u16
-    requires { Inside d n s e }
-    ensures { result ≡ column_of d n s e }
-{
-    if d <= n {
-        wide_column(d, n, s, e)
-    } else {
-        narrow_column(d, n, s, e)
+    // The cell of chunk j.
+    #[tactic(auto, using(crate::proofs::Within::inside), unfolding(crate::specs::Placing::row_at, crate::specs::Placing::row_of, crate::specs::Placing::column_at, crate::specs::Placing::column_of, crate::specs::Placing::coeff_at, crate::specs::Placing::coeff_of))]
+    pub fn cell(self, j: u16) -> Cell
+        requires { j < chunks_of self.d self.d2 }
+        ensures row { result.row ≡ row_at self.d self.d2 j }
+        ensures column { result.column ≡ column_at self.d self.d2 j }
+        ensures x { result.x ≡ coeff_at self.d self.d2 j }
+    {
+        let s = j / self.d;
+        let e = j % self.d;
+        if self.d <= self.d2 {
+            let Spot { row, column } = self.wide_spot(s, e);
+            Cell {
+                row,
+                column,
+                x: column,
+            }
+        } else {
+            let Spot { row, column } = self.narrow_spot(s, e);
+            Cell {
+                row,
+                column,
+                x: e / self.d2 * self.d2 + column,
+            }
+        }
     }
-}
 
-pub fn home_of(d: u16, n: u16, s: u16) -> u16
-    requires { Inside d n s 0 }
-    ensures { result ≡ home_of d n s }
-{
-    if d <= n {
-        wide_row(d, n, s, 0)
-    } else {
-        s * (d / n) + d / n - 1
+    // The home row of stripe s.
+    #[tactic(auto, using(crate::proofs::Small::on_the_way), unfolding(crate::specs::Placing::home_of))]
+    pub fn home(self, s: u16) -> u16
+        requires { s < stripes_of self.d self.d2 }
+        ensures { result ≡ home_of self.d self.d2 s }
+    {
+        if self.d <= self.d2 {
+            self.wide_spot(s, 0).row
+        } else {
+            let w = self.d / self.d2;
+            s * w + w - 1
+        }
     }
-}
 
-fn coeff_of(d: u16, n: u16, s: u16, e: u16) -> u16
-    requires { Inside d n s e }
-    ensures { result ≡ coeff_of d n s e }
-{
-    let column = column_of(d, n, s, e);
-    if d <= n { column } else { e / n * n + column }
-}
-
-// Where chunk j stands.
-pub fn row_at(d: u16, n: u16, j: u16) -> u16
-    requires { Chunk d n j }
-    ensures { result ≡ row_at d n j }
-{
-    row_of(d, n, j / d, j % d)
-}
-
-pub fn column_at(d: u16, n: u16, j: u16) -> u16
-    requires { Chunk d n j }
-    ensures { result ≡ column_at d n j }
-{
-    column_of(d, n, j / d, j % d)
-}
-
-pub fn coeff_at(d: u16, n: u16, j: u16) -> u16
-    requires { Chunk d n j }
-    ensures { result ≡ coeff_at d n j }
-{
-    coeff_of(d, n, j / d, j % d)
-}
-
-fn wide_chunk(d: u16, n: u16, i: u16, c: u16) -> u16
-    requires { (Cell d n i c) × (d ≤ n) }
-    ensures { result ≡ wide_chunk d n i c }
-{
-    let w = n / d;
-    let z = n % d;
-    let off = (c + n - start(d, n, i)) % n;
-    if off < w * d {
-        return i * w * d + off;
+    #[tactic(auto, using(crate::proofs::Cells::on_the_way), unfolding(crate::specs::Placing::wide_chunk))]
+    fn wide_chunk(self, i: u16, c: u16) -> u16
+        requires cell { IsCell self.d self.d2 i c }
+        requires wide { self.d ≤ self.d2 }
+        ensures { result ≡ wide_chunk self.d self.d2 i c }
+    {
+        let w = self.d2 / self.d;
+        let z = self.d2 % self.d;
+        let off = (c + self.d2 - self.start(i)) % self.d2;
+        if off < w * self.d {
+            return i * w * self.d + off;
+        }
+        let b = self.beta();
+        let whole = w * self.rows();
+        if i < b {
+            return (whole + i) * self.d + (off - w * self.d);
+        }
+        let t = (i - b) * z + (off - w * self.d);
+        (whole + t / (self.d - z)) * self.d + z + t % (self.d - z)
     }
-    let b = beta(d, n);
-    let whole = w * rows(d, n);
-    if i < b {
-        return (whole + i) * d + (off - w * d);
-    }
-    let t = (i - b) * z + (off - w * d);
-    (whole + t / (d - z)) * d + z + t % (d - z)
-}
 
-fn narrow_chunk(d: u16, n: u16, i: u16, c: u16) -> u16
-    requires { (Cell d n i c) × (n < d) }
-    ensures { result ≡ narrow_chunk d n i c }
-{
-    let w = d / n;
-    let z = d % n;
-    let whole = w * stripes(d, n);
-    if i < whole {
-        return i / w * d + i % w * n + c;
+    #[tactic(auto, using(crate::proofs::Cells::on_the_way), unfolding(crate::specs::Placing::narrow_chunk))]
+    fn narrow_chunk(self, i: u16, c: u16) -> u16
+        requires cell { IsCell self.d self.d2 i c }
+        requires narrow { self.d2 < self.d }
+        ensures { result ≡ narrow_chunk self.d self.d2 i c }
+    {
+        let w = self.d / self.d2;
+        let z = self.d % self.d2;
+        let whole = w * self.stripes();
+        if i < whole {
+            return i / w * self.d + i % w * self.d2 + c;
+        }
+        let t = (i - whole) * self.d2 + c;
+        t / z * self.d + w * self.d2 + t % z
     }
-    let t = (i - whole) * n + c;
-    t / z * d + w * n + t % z
-}
 
-// The chunk in row i and column c.
-pub fn chunk_in(d: u16, n: u16, i: u16, c: u16) -> u16
-    requires { Cell d n i c }
-    ensures { result ≡ chunk_at d n i c }
-{
-    if d <= n {
-        wide_chunk(d, n, i, c)
-    } else {
-        narrow_chunk(d, n, i, c)
+    // The chunk in row i and column c.
+    #[tactic(auto, unfolding(crate::specs::Placing::chunk_at))]
+    pub fn chunk_in(self, i: u16, c: u16) -> u16
+        requires { IsCell self.d self.d2 i c }
+        ensures { result ≡ chunk_at self.d self.d2 i c }
+    {
+        if self.d <= self.d2 {
+            self.wide_chunk(i, c)
+        } else {
+            self.narrow_chunk(i, c)
+        }
     }
-}
 
-// The chunks outside the home rows.
-pub fn outside(d: u16, n: u16) -> u16
-    requires { Sized d n }
-    ensures value { result ≡ outside_of d n }
-    ensures counted { result ≡ outside_home (placement d n) }
-{
-    if d <= n {
-        beta(d, n) * (d - n % d)
-    } else {
-        stripes(d, n) * (d - n)
+    // The chunks outside the home rows.
+    #[tactic(auto, using(crate::proofs::Small::wide_outside_le, crate::proofs::Small::narrow_outside_le, crate::proofs::Facts::outside_is), unfolding(crate::specs::Counts::outside_of))]
+    pub fn outside(self) -> u16
+        ensures value { result ≡ outside_of self.d self.d2 }
+        ensures counted { result ≡ outside_home (placement self.d self.d2) }
+    {
+        if self.d <= self.d2 {
+            self.beta() * (self.d - self.d2 % self.d)
+        } else {
+            self.stripes() * (self.d - self.d2)
+        }
     }
 }
