@@ -16,13 +16,13 @@ use crate::changeover::under_way;
 use crate::load::Load;
 use crate::orders::Order;
 use crate::pool::Pool;
-use crate::words::symbol_at;
 use coding::group::{Group, Kind};
 use coding::parity::weights;
 use field::Field;
 use layout::plan::Plan;
 use layout::refusal::Refusal;
 use rack::rack::Rack;
+use rack::symbol;
 use std::array;
 
 /// What a stripe adds at an offset: of each row, to each of its staged parities.
@@ -123,13 +123,13 @@ impl<'a, F: Field> Carrying<'a, F> {
         ensures { R.valid rack.now → Shares (F.arithmetic self.now.field.now) self.now.load e (chunks_at (scheme_of self.now.load.plan) (R.meaning rack.now) offset (chunk_in (scheme_of self.now.load.plan) self.now.load.group.index e)) result }
     {
         let group = &self.load.group;
-        let symbol = symbol_at(rack, group.modules[e], group.slots[e], offset);
+        let value = symbol(rack, group.modules[e], group.slots[e], offset);
         let field = self.field;
         self.load.weights.map(
             |weights: [u16; 14]| -> u16
                 requires { e < 14 }
-                ensures { result ≡ (F.arithmetic field.entry.now).mul (slice_index weights e) symbol }
-            { field.mul(weights[e], symbol) },
+                ensures { result ≡ (F.arithmetic field.entry.now).mul (slice_index weights e) value }
+            { field.mul(weights[e], value) },
         )
     }
 
@@ -181,7 +181,7 @@ impl<'a, F: Field> Carrying<'a, F> {
         let mut parities = [0; 4];
         for k in 0..self.load.plan.r2 {
             let module = self.load.plan.d2 + k;
-            parities[k as usize] = symbol_at(rack, module, self.load.group.index, offset);
+            parities[k as usize] = symbol(rack, module, self.load.group.index, offset);
         }
         parities
     }

@@ -19,6 +19,7 @@ use field::Field;
 use layout::plan::Cell;
 use layout::refusal::Refusal;
 use rack::rack::Rack;
+use rack::symbol;
 
 /// A word that was looked up.
 #[derive(Clone, Copy)]
@@ -27,13 +28,6 @@ pub(crate) struct Found {
     symbol: u16,
     /// the symbols of those parities of its settled group that were fetched to find it, by the numbers of the parities
     parities: [Option<u16>; 4],
-}
-
-/// The symbol at a place; 0 where there is none.
-pub(crate) fn symbol_at<R: Rack>(rack: &R, module: u16, slot: u16, offset: u16) -> u16
-    ensures { R.valid rack.now → result ≡ (R.meaning rack.now).symbol «module» slot offset }
-{
-    rack.get(module, slot, offset).unwrap_or(0)
 }
 
 impl<F: Field, R: Rack> Pool<F, R> {
@@ -60,7 +54,7 @@ impl<F: Field, R: Rack> Pool<F, R> {
         let Cell { row, column, .. } = word.cell;
         if self.rack.ask(column) {
             return Ok(Found {
-                symbol: symbol_at(&self.rack, column, row, word.offset),
+                symbol: symbol(&self.rack, column, row, word.offset),
                 parities: [None; 4],
             });
         }
