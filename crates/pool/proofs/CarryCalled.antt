@@ -22,8 +22,7 @@ use Rattle.pool.specs.declared.load.Load.{Load}
 use Rattle.pool.specs.Growth.{Loaded, Whole, LoadOf}
 use Rattle.pool.specs.Pools.{standing, Held, Called}
 use Rattle.pool.proofs.Refusing.{never, passes_under_way}
-use Rattle.pool.proofs.Steps.{does_refused, does_granted}
-use Rattle.pool.proofs.Keeping.{kept_step}
+use Rattle.pool.proofs.Calls.{called_refused, called_granted}
 
 -- where the phase refuses, what would be checked after it does not matter
 pub first_refusal : (ph : Phase) (rest : Option Refusal) (e : Refusal) → under_way_refusal ph None ≡ Some e → under_way_refusal ph rest ≡ Some e
@@ -36,33 +35,10 @@ abbrev pair : ℕ → ℕ → ℕ × ℕ
 pair a b = (a, b)
 
 module _ {F R : Type 0} (arithmetic : F → Arithmetic) (lawful : (f : F) → Lawful (arithmetic f)) (valid : R → Type 0) (meaning : R → Meaning) (x : Pool F R) (held : Held arithmetic valid meaning x) where
-  -- a call that does what it should keeps what always holds
-  pub called : (y : Pool F R) (c : Call) (a : Answer) → y.plan ≡ x.plan → y.field ≡ x.field → valid y.rack →
-      Does (arithmetic x.field) (scheme_of x.plan) (standing arithmetic valid meaning x) c a (standing arithmetic valid meaning y) → Called arithmetic valid meaning x y c a
-  called y c a same_plan same_field ok does =
-      let A : Arithmetic = arithmetic x.field in
-      let p : Scheme = scheme_of x.plan in
-      let t : Standing = standing arithmetic valid meaning y in
-      let kept : Kept A p t = kept_step A (lawful x.field) p (plan.sound x.plan A held.order_is) (standing arithmetic valid meaning x) c a t held.kept does in
-      record {
-        held =
-            record {
-              rack_is_valid = ok;
-              order_is = ap (λ (f : F). (arithmetic f).order) same_field ∙ held.order_is ∙ ap (λ (q : Plan). q.order) (sym same_plan);
-              kept =
-                  subst (λ (f : F). Kept (arithmetic f) (scheme_of y.plan) t) (sym same_field) (subst (λ (q : Plan). Kept A (scheme_of q) t) (sym same_plan) kept);
-            };
-        same_plan = same_plan;
-        same_field = same_field;
-        does = does;
-      }
-
   -- a call that its checks refuse, and that leaves the pool as it is
   pub refuses : (c : Call) (e : Refusal) → refusal (scheme_of x.plan) (arithmetic x.field).order x.phase x.carried (out_of (standing arithmetic valid meaning x)) c ≡ Some e →
       Called arithmetic valid meaning x x c (Err e)
-  refuses c e is =
-      let s : Standing = standing arithmetic valid meaning x in
-      called x c (Err e) refl refl held.rack_is_valid (does_refused (arithmetic x.field) (scheme_of x.plan) s c (Err e) s e is refl refl)
+  refuses c e is = called_refused arithmetic lawful valid meaning x x held held.rack_is_valid refl refl c e is refl
 
   -- while the changeover is under way all modules are fitted
   pub whole : x.phase ≡ UnderWay → Whole (arithmetic x.field) (scheme_of x.plan) (meaning x.rack)
@@ -100,11 +76,10 @@ module _ {F R : Type 0} (arithmetic : F → Arithmetic) (lawful : (f : F) → La
       let accepted : refusal p A.order s.phase s.carried (out_of s) Carry ≡ None =
       ap (λ (ph : Phase). under_way_refusal ph (refuse_if (leb p.stripes x.carried) (WrongCount x.carried) None)) way
       ∙ cond-false (leb p.stripes x.carried) (Some (WrongCount x.carried)) None (lt-leb p.stripes x.carried more) in
-      called y Carry (Ok (Carried m k)) refl refl ok
-      (does_granted A p s Carry (Ok (Carried m k)) (standing arithmetic valid meaning y) accepted (
+      called_granted arithmetic lawful valid meaning x y held ok refl refl Carry (Ok (Carried m k)) accepted (
         ap (λ (c : ℕ × ℕ). Ok (Carried c.0 c.1)) counts,
         λ i. record { phase = x.phase; carried = add-one x.carried i; held = is i },
-      ))
+      )
 
   -- the same from what carrying a load does
   pub carries_load : (load : Load) → LoadOf (arithmetic x.field) x.plan x.carried load → (rack : R) (counts : ℕ × ℕ) → under_way_refusal x.phase None ≡ None →

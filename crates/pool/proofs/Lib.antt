@@ -23,7 +23,6 @@ pub mod OutAlike
 pub mod Restoring
 pub mod Putting
 pub mod Going
-pub mod RefitCalled
 pub mod Refitting
 pub mod LookedUp
 pub mod Added

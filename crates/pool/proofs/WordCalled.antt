@@ -19,8 +19,7 @@ use Rattle.pool.specs.Effects.{changed, holding, written_symbol, Does}
 use Rattle.pool.specs.Pools.{standing, Held, Called}
 use Rattle.pool.specs.WordSteps.{Looked}
 use Rattle.pool.specs.WordCalls.{Wrote}
-use Rattle.pool.proofs.Steps.{does_granted}
-use Rattle.pool.proofs.Keeping.{kept_step}
+use Rattle.pool.proofs.Calls.{called_granted}
 
 -- a write that no check refuses
 write_granted : (A : Arithmetic) (p : Scheme) (s : Standing) (c o v : ℕ) (old : Found) → c < p.chunks → o < p.len → v < A.order → Looked A p s c o (Ok old) →
@@ -38,34 +37,11 @@ pub wrote : {F R : Type 0} (arithmetic : F → Arithmetic) (valid : R → Type 0
 wrote arithmetic valid meaning x rack c o v old fine is =
     record { rack_is_valid = fine; same_plan = refl; same_field = refl; written = ap (holding (standing arithmetic valid meaning x)) is }
 
-module _ {F R : Type 0} (arithmetic : F → Arithmetic) (valid : R → Type 0) (meaning : R → Meaning) (x y : Pool F R) (L : Lawful (arithmetic x.field)) (held : Held arithmetic valid meaning x) where
-  -- what a call does keeps what always holds of a pool
-  pub called : (c : Call) (a : Answer) → valid y.rack → y.plan ≡ x.plan → y.field ≡ x.field →
-      Does (arithmetic x.field) (scheme_of x.plan) (standing arithmetic valid meaning x) c a (standing arithmetic valid meaning y) → Called arithmetic valid meaning x y c a
-  called c a fine plan_is field_is does =
-      let A : Arithmetic = arithmetic x.field in
-      let kept : Kept A (scheme_of x.plan) (standing arithmetic valid meaning y) =
-      kept_step A L (scheme_of x.plan) (sound x.plan A held.order_is) (standing arithmetic valid meaning x) c a (standing arithmetic valid meaning y) held.kept does in
-      record {
-        held =
-            record {
-              rack_is_valid = fine;
-              order_is = ap (λ (f : F). (arithmetic f).order) field_is ∙ held.order_is ∙ ap (λ (q : Plan). q.order) (sym plan_is);
-              kept =
-                  subst (λ (f : F). Kept (arithmetic f) (scheme_of y.plan) (standing arithmetic valid meaning y)) (sym field_is)
-                  (subst (λ (q : Plan). Kept A (scheme_of q) (standing arithmetic valid meaning y)) (sym plan_is) kept);
-            };
-        same_plan = plan_is;
-        same_field = field_is;
-        does = does;
-      }
-
+module _ {F R : Type 0} (arithmetic : F → Arithmetic) (valid : R → Type 0) (meaning : R → Meaning) (x y : Pool F R) (lawful : (f : F) → Lawful (arithmetic f)) (held : Held arithmetic valid meaning x) where
   pub write_called : (c o v : ℕ) (old : Found) → c < (scheme_of x.plan).chunks → o < x.plan.len → v < (arithmetic x.field).order →
       Looked (arithmetic x.field) (scheme_of x.plan) (standing arithmetic valid meaning x) c o (Ok old) → Wrote arithmetic valid meaning x y c o v old.symbol →
       Called arithmetic valid meaning x y (Write c o v) (Ok Done)
   write_called c o v old lc lo lv looked wrote =
-      let A : Arithmetic = arithmetic x.field in
-      let p : Scheme = scheme_of x.plan in
-      let s : Standing = standing arithmetic valid meaning x in
-      called (Write c o v) (Ok Done) wrote.rack_is_valid wrote.same_plan wrote.same_field
-      (does_granted A p s (Write c o v) (Ok Done) (standing arithmetic valid meaning y) (write_granted A p s c o v old lc lo lv looked) (old.symbol, looked.1, refl, wrote.written))
+      called_granted arithmetic lawful valid meaning x y held wrote.rack_is_valid wrote.same_plan wrote.same_field (Write c o v) (Ok Done)
+      (write_granted (arithmetic x.field) (scheme_of x.plan) (standing arithmetic valid meaning x) c o v old lc lo lv looked)
+      (old.symbol, looked.1, refl, wrote.written)

@@ -22,7 +22,7 @@ returns g c =
     let looked = c.in_ok-old.ensures held in
     let lv : v < A.order = omega (arith, c.if-symbol-order.false, c.order.ensures) in
     let done =
-    write_called g.F.Field.arithmetic g.R.Rack.valid g.R.Rack.meaning x y (g.met.F.Field.lawful x.field) held word.chunk word.offset v old
+    write_called g.F.Field.arithmetic g.R.Rack.valid g.R.Rack.meaning x y g.met.F.Field.lawful held word.chunk word.offset v old
     (subst (λ (q : Plan). word.chunk < (scheme_of q).chunks) is.0 word.placed.0) (subst (λ (q : Plan). word.offset < q.len) is.0 word.inside) lv
     (subst (λ (q : Plan). Looked A (scheme_of q) s word.chunk word.offset (Ok old)) is.0 looked) (c.store_word.ensures held lv looked) in
     subst (λ (o : ℕ). Called g.F.Field.arithmetic g.R.Rack.valid g.R.Rack.meaning x y (Write c.args.chunk o v) (Ok Done)) is.2
