@@ -39,11 +39,11 @@ pub(crate) fn add_at<F: Field, R: Rack>(
 pub(crate) fn shares_of<F: Field>(field: &F, x: u8, change: u16) -> [u16; 4]
     ensures { (k : ℕ) → k < 4 → slice_index result k ≡ share_of (F.arithmetic field.now) x change k }
 {
-    let mut shares = [0; 4];
-    for k in 0..4u8 {
-        shares[k as usize] = field.mul(coefficient(field, k, x), change);
-    }
-    shares
+    [0, 1, 2, 3].map(
+        |k: u8| -> u16
+            ensures { result ≡ share_of (F.arithmetic field.entry.now) x change k }
+        { field.mul(coefficient(field, k, x), change) },
+    )
 }
 
 /// Adds to the symbol at a place, where its module is fitted. A symbol that was fetched before is not fetched again.

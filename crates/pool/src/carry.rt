@@ -111,6 +111,7 @@ impl<'a, F: Field> Carrying<'a, F> {
         ensures { Grows R.valid R.meaning (F.arithmetic self.now.field.now) (scheme_of self.now.load.plan) rack.old rack.new offset (to_row row shares) }
     {
         let slot = self.load.base + row;
+        // k is a module as well as an index
         for k in 0..self.load.plan.r2 {
             let module = self.load.plan.d2 + k;
             add_at(rack, self.field, module, slot, offset, shares[k as usize]);
@@ -178,6 +179,7 @@ impl<'a, F: Field> Carrying<'a, F> {
     fn parities_at<R: Rack>(&self, rack: &R, offset: u16) -> [u16; 4]
         ensures { R.valid rack.now → (k : ℕ) → k < (scheme_of self.now.load.plan).r' → slice_index result k ≡ (R.meaning rack.now).symbol ((scheme_of self.now.load.plan).d' + k) self.now.load.group.index offset }
     {
+        // k is a module too, and no parity from r2 on may be fetched: as a closure this wants three clauses, and is no plainer
         let mut parities = [0; 4];
         for k in 0..self.load.plan.r2 {
             let module = self.load.plan.d2 + k;
