@@ -12,7 +12,7 @@ ghost use Rattle.pool.specs.declared.kinds.Call.TheVariants.{Begin, Ready, Close
 use crate::kinds::Phase;
 use crate::orders::{AnyOrder, Order, ReadyOrder};
 use crate::pool::Pool;
-use crate::sweep::{clear_block, lowest_out};
+use crate::sweep::{all_fitted, clear_block};
 use field::Field;
 use layout::refusal::Refusal;
 use rack::rack::Rack;
@@ -36,10 +36,7 @@ impl<F: Field, R: Rack> Pool<F, R> {
         if self.phase != Phase::Before {
             return Err(Refusal::WrongPhase(u16::from(self.phase)));
         }
-        match lowest_out(&self.rack, self.plan.modules()) {
-            Some(module) => Err(Refusal::ModuleOut(module)),
-            None => Ok(()),
-        }
+        all_fitted(&self.rack, self.plan.modules())
     }
 
     /// Whether the changeover can be made ready, and closed.

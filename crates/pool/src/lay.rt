@@ -9,7 +9,7 @@ ghost use Rattle.pool.specs.Pools.{Held, standing};
 
 use crate::kinds::Phase;
 use crate::pool::Pool;
-use crate::sweep::{clear_block, lowest_out};
+use crate::sweep::{all_fitted, clear_block};
 use field::Field;
 use layout::label::Label;
 use layout::plan::Plan;
@@ -44,10 +44,7 @@ impl<F: Field, R: Rack> Pool<F, R> {
         ensures { R.valid rack.now → why_not result ≡ lay_refusal plan.now (F.arithmetic field.now).order (R.meaning rack.now) }
     {
         check_fit(plan, field, rack)?;
-        match lowest_out(rack, plan.modules()) {
-            Some(module) => Err(Refusal::ModuleOut(module)),
-            None => Ok(()),
-        }
+        all_fitted(rack, plan.modules())
     }
 
     /// Lays a pool over a rack that the check does not refuse. Every symbol of the pool is 0.

@@ -1,13 +1,26 @@
 // What goes over modules and slots of a rack.
 ghost use Rattle.std.specs.Prelude.{◌≡◌, ◌+◌, not};
 ghost use Rattle.pool.specs.Blocks.{Blocked, zeroed};
-ghost use Rattle.pool.specs.Book.{lowest};
+ghost use Rattle.pool.specs.Book.{lowest, refuse_at};
+ghost use Rattle.pool.specs.Openings.{why_not};
+ghost use Rattle.layout.specs.declared.refusal.Refusal.TheVariants.{ModuleOut};
 
+use layout::refusal::Refusal;
 use rack::clear_slot;
 use rack::rack::Rack;
 
+/// Whether each of the first modules is fitted; else the lowest that is out refuses.
+pub(crate) fn all_fitted<R: Rack>(rack: &R, modules: u16) -> Result<(), Refusal>
+    ensures { R.valid rack.now → why_not result ≡ refuse_at (lowest (λ m. not ((R.meaning rack.now).fitted m)) modules) ModuleOut }
+{
+    match lowest_out(rack, modules) {
+        Some(module) => Err(Refusal::ModuleOut(module)),
+        None => Ok(()),
+    }
+}
+
 /// The lowest of the first modules that is out.
-pub(crate) fn lowest_out<R: Rack>(rack: &R, modules: u16) -> Option<u16>
+fn lowest_out<R: Rack>(rack: &R, modules: u16) -> Option<u16>
     ensures { R.valid rack.now → result ≡ lowest (λ m. not ((R.meaning rack.now).fitted m)) modules }
 {
     (0..modules).find(|module| !rack.ask(*module))
