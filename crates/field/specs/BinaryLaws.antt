@@ -95,16 +95,22 @@ module _ (w p : ℕ) (t : Passes w p) where
     inv-zero = eqb→eq _ _ t.inv-zero;
   }
 
+pub nibble_degree : Degree 4 0x13
+nibble_degree = record { some = lit< tt; small = lit≤ tt; top = refl }
+
 nibble_passes : Passes 4 0x13
 unfolding product powers
-nibble_passes = record { degree = record { some = lit< tt; small = lit≤ tt; top = refl }; two = lit< tt; fits = lit< tt; assoc = tt; comm = tt; one = tt; inv = tt; inv-zero = tt }
+nibble_passes = record { degree = nibble_degree; two = lit< tt; fits = lit< tt; assoc = tt; comm = tt; one = tt; inv = tt; inv-zero = tt }
 
 pub nibble_lawful : Lawful nibble
 nibble_lawful = reading_lawful (binary 4 0x13) (binary_laws 4 0x13 nibble_passes)
 
+pub byte_degree : Degree 8 0x11D
+byte_degree = record { some = lit< tt; small = lit≤ tt; top = refl }
+
 byte_passes : Passes 8 0x11D
 unfolding product powers
-byte_passes = record { degree = record { some = lit< tt; small = lit≤ tt; top = refl }; two = lit< tt; fits = lit< tt; assoc = tt; comm = tt; one = tt; inv = tt; inv-zero = tt }
+byte_passes = record { degree = byte_degree; two = lit< tt; fits = lit< tt; assoc = tt; comm = tt; one = tt; inv = tt; inv-zero = tt }
 
 pub byte_lawful : Lawful byte
 byte_lawful = reading_lawful (binary 8 0x11D) (binary_laws 8 0x11D byte_passes)

@@ -1,22 +1,62 @@
 //! The fields of 256 and of 16 elements: polynomials over two elements, one bit for each coefficient.
-ghost use Rattle.std.specs.Prelude.{◌≡◌, ◌-◌, ◌%◌, ◌^◌, ◌<◌, ◌≤◌};
-ghost use Rattle.field.specs.Arithmetic.{powers};
-ghost use Rattle.field.specs.Binary.{byte, nibble, shifted, pick, product, Degree};
-ghost use Rattle.field.specs.BinaryLaws.{byte_lawful, nibble_lawful};
+ghost use Rattle.std.specs.Prelude.{◌≡◌, ℕ, ◌-◌, ◌%◌, ◌^◌, ◌<◌, ◌≤◌};
+ghost use Rattle.field.specs.Arithmetic.{Lawful, powers, reading};
+ghost use Rattle.field.specs.Binary.{binary, shifted, pick, product, Degree};
+ghost use Rattle.field.specs.BinaryLaws.{byte_degree, byte_lawful, nibble_degree, nibble_lawful};
 
+use crate::squares::times_powers;
 use crate::{Field, read};
+
+/// The polynomial that the products of a field are reduced by.
+pub trait Modulus {
+    ghost DEGREE: { ℕ };
+
+    const DEGREE: u16;
+
+    ghost POLYNOMIAL: { ℕ };
+
+    const POLYNOMIAL: u16;
+
+    ghost degree: { Degree DEGREE POLYNOMIAL };
+
+    ghost lawful: { Lawful (reading (binary DEGREE POLYNOMIAL)) };
+}
 
 /// The field of 256 elements, reduced by x^8 + x^4 + x^3 + x^2 + 1.
 #[derive(Clone, Copy, Drop)]
 pub struct ByteField;
 
+impl Modulus for ByteField {
+    ghost DEGREE = { 8 };
+
+    const DEGREE: u16 = 8;
+
+    ghost POLYNOMIAL = { 0x11D };
+
+    const POLYNOMIAL: u16 = 0x11D;
+
+    ghost degree = { byte_degree };
+
+    ghost lawful = { byte_lawful };
+}
+
 /// The field of 16 elements, reduced by x^4 + x + 1.
 #[derive(Clone, Copy, Drop)]
 pub struct NibbleField;
 
-const BYTE_POLYNOMIAL: u16 = 0x11D;
+impl Modulus for NibbleField {
+    ghost DEGREE = { 4 };
 
-const NIBBLE_POLYNOMIAL: u16 = 0x13;
+    const DEGREE: u16 = 4;
+
+    ghost POLYNOMIAL = { 0x13 };
+
+    const POLYNOMIAL: u16 = 0x13;
+
+    ghost degree = { nibble_degree };
+
+    ghost lawful = { nibble_lawful };
+}
 
 /// The lowest digit of `d` times `a`.
 fn digit_times(d: u16, a: u16) -> u16
@@ -25,96 +65,59 @@ fn digit_times(d: u16, a: u16) -> u16
     if d % 2 == 0 { 0 } else { a }
 }
 
-/// x times the polynomial `a`, reduced by `p`, of degree `w`.
-fn shift(w: u16, p: u16, a: u16) -> u16
-    requires { (0 < w) × ((w ≤ 8) × (a < 2 ^ w)) }
-    ensures { result ≡ shifted w p a }
+/// x times the polynomial `a`, reduced.
+fn shift<M: Modulus>(a: u16) -> u16
+    requires { a < 2 ^ M.DEGREE }
+    ensures { result ≡ shifted M.DEGREE M.POLYNOMIAL a }
 {
-    (a * 2) ^ digit_times(a >> (w - 1), p)
+    (a * 2) ^ digit_times(a >> (M::DEGREE - 1), M::POLYNOMIAL)
 }
 
-/// The product of two polynomials, reduced by `p`, of degree `w`.
-fn multiply(w: u16, p: u16, a: u16, b: u16) -> u16
-    requires degree { Degree w p }
-    requires below { a < 2 ^ w }
-    ensures is { result ≡ product w p w a b }
-    ensures below { result < 2 ^ w }
+/// The product of two polynomials, reduced.
+fn multiply<M: Modulus>(a: u16, b: u16) -> u16
+    requires { a < 2 ^ M.DEGREE }
+    ensures is { result ≡ product M.DEGREE M.POLYNOMIAL M.DEGREE a b }
+    ensures below { result < 2 ^ M.DEGREE }
 {
     let mut sum = 0;
     let mut x = a;
     let mut y = b;
-    for _i in 0..w {
+    for _i in 0..M::DEGREE {
         sum ^= digit_times(y, x);
-        x = shift(w, p, x);
+        x = shift::<M>(x);
         y /= 2;
     }
     sum
 }
 
-/// The inverse of `a`: its power 2 ^ w - 2, which is the product of its powers 2, 4, 8 and so on, w - 1 of them.
-fn invert(w: u16, p: u16, a: u16) -> u16
-    requires degree { Degree w p }
-    requires below { a < 2 ^ w }
-    ensures is { result ≡ powers (product w p w) (w - 1) a 1 }
-    ensures below { result < 2 ^ w }
-{
-    let mut square = a;
-    let mut power = 1;
-    for _i in 0..w - 1 {
-        square = multiply(w, p, square, square);
-        power = multiply(w, p, power, square);
-    }
-    power
-}
+impl<M: Modulus> Field for M {
+    ghost arithmetic = { λ _. reading (binary M.DEGREE M.POLYNOMIAL) };
 
-impl Field for ByteField {
-    ghost arithmetic = { λ _. byte };
-
-    ghost lawful = { λ f. byte_lawful };
+    ghost lawful = { λ f. M.lawful };
 
     fn order(&self) -> u16 {
-        256
+        1 << M::DEGREE
     }
 
     fn add(&self, a: u16, b: u16) -> u16 {
-        read(256, a) ^ read(256, b)
+        read(self.order(), a) ^ read(self.order(), b)
     }
 
     fn neg(&self, a: u16) -> u16 {
-        read(256, a)
+        read(self.order(), a)
     }
 
     fn mul(&self, a: u16, b: u16) -> u16 {
-        multiply(8, BYTE_POLYNOMIAL, read(256, a), read(256, b))
+        multiply::<M>(read(self.order(), a), read(self.order(), b))
     }
 
+    /// The power 2 ^ w - 2 of `a`, where w is the degree, which is the product of its powers 2, 4, 8 and so on, w - 1 of them.
     fn inv(&self, a: u16) -> u16 {
-        invert(8, BYTE_POLYNOMIAL, read(256, a))
-    }
-}
-
-impl Field for NibbleField {
-    ghost arithmetic = { λ _. nibble };
-
-    ghost lawful = { λ f. nibble_lawful };
-
-    fn order(&self) -> u16 {
-        16
-    }
-
-    fn add(&self, a: u16, b: u16) -> u16 {
-        read(16, a) ^ read(16, b)
-    }
-
-    fn neg(&self, a: u16) -> u16 {
-        read(16, a)
-    }
-
-    fn mul(&self, a: u16, b: u16) -> u16 {
-        multiply(4, NIBBLE_POLYNOMIAL, read(16, a), read(16, b))
-    }
-
-    fn inv(&self, a: u16) -> u16 {
-        invert(4, NIBBLE_POLYNOMIAL, read(16, a))
+        times_powers(
+            |x, y| multiply::<M>(x, y),
+            M::DEGREE - 1,
+            read(self.order(), a),
+            1,
+        )
     }
 }

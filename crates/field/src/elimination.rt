@@ -1,30 +1,23 @@
 //! One step of the elimination.
-ghost use Rattle.std.specs.Prelude.{◌≡◌, ℕ, ◌<◌, ◌≤◌, ◌≢◌};
+ghost use Rattle.std.specs.Prelude.{◌≡◌, ℕ, ◌<◌, ◌≤◌, ◌≢◌, slice_index};
 ghost use Rattle.field.specs.Elimination.{Grid, Scaled, Reduced, Stepped, Same};
 ghost use Rattle.field.specs.Systems.{at, Codes};
 
 use crate::Field;
+use std::array;
 
 /// The row times a number.
 fn scaled<F: Field>(field: &F, row: [u16; 4], by: u16) -> [u16; 4]
     ensures { Scaled (F.arithmetic field.now) by row result }
 {
-    let mut out = [0; 4];
-    for j in 0..4 {
-        out[j] = field.mul(by, row[j]);
-    }
-    out
+    row.map(|entry| field.mul(by, entry))
 }
 
 /// The row less a number times the row `top`.
 fn reduced<F: Field>(field: &F, row: [u16; 4], top: [u16; 4], by: u16) -> [u16; 4]
     ensures { Reduced (F.arithmetic field.now) by row top result }
 {
-    let mut out = [0; 4];
-    for j in 0..4 {
-        out[j] = field.sub(row[j], field.mul(by, top[j]));
-    }
-    out
+    array::from_fn(|j| field.sub(row[j], field.mul(by, top[j])))
 }
 
 /// Clears a column of the system `a`, `b`, above and below its pivot, which becomes one. The solutions stay the same.
@@ -44,17 +37,12 @@ pub(crate) fn eliminate<F: Field>(
     let by = field.inv(a[column][column]);
     let top = scaled(field, a[column], by);
     let side = field.mul(by, b[column]);
-    let mut rows = a;
-    let mut sides = b;
-    for i in 0..4 {
-        if i == column {
-            rows[i] = top;
-            sides[i] = side;
-        } else {
-            let factor = a[i][column];
-            rows[i] = reduced(field, a[i], top, factor);
-            sides[i] = field.sub(b[i], field.mul(factor, side));
-        }
-    }
+    let mut rows = a.map(|row: [u16; 4]| -> [u16; 4]
+        requires { column < 4 }
+        ensures { Reduced (F.arithmetic field.entry.now) (slice_index row column) row top result }
+    { reduced(field, row, top, row[column]) });
+    rows[column] = top;
+    let mut sides = array::from_fn(|i| field.sub(b[i], field.mul(a[i][column], side)));
+    sides[column] = side;
     (rows, sides)
 }

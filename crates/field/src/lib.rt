@@ -5,6 +5,7 @@ mod binary;
 mod elimination;
 mod posed;
 mod prime;
+mod squares;
 mod sums;
 mod systems;
 
