@@ -5,7 +5,7 @@ use Rattle.field.specs.Systems.{Posed}
 use Rattle.coding.specs.declared.group.Kind.{Kind}
 use Rattle.coding.specs.Schemes.{Scheme, Sound}
 use Rattle.coding.specs.Groups.{groups, size, parities, chunk_of, index_of, count, nth}
-use Rattle.coding.specs.Words.{missing, misses, used}
+use Rattle.coding.specs.Words.{missing_chunks, missing_pieces, used}
 use Rattle.coding.proofs.Listed.{Lists}
 use Rattle.coding.proofs.Counting.{counted, firsts, count_le}
 use Rattle.coding.proofs.Grouping as grouping
@@ -22,8 +22,8 @@ renamed l n P js ks at lists same =
       back = λ j lj q. same (at j) (lists.placed j lj q) ∙ lists.back j lj q;
     }
 
-module _ (A : Arithmetic) (L : Lawful A) (p : Scheme) (sound : Sound A p) (t : Kind) (i : ℕ) (li : i < groups p t) (out : ℕ → Bool) (enough : misses p t i out ≤ parities p t)
-    (n : ℕ) (js ks : List ℕ) (n-is : n ≡ missing p t i out)
+module _ (A : Arithmetic) (L : Lawful A) (p : Scheme) (sound : Sound A p) (t : Kind) (i : ℕ) (li : i < groups p t) (out : ℕ → Bool) (enough : missing_pieces p t i out ≤ parities p t)
+    (n : ℕ) (js ks : List ℕ) (n-is : n ≡ missing_chunks p t i out)
     (js_are : (j : ℕ) → j < n → get_or js j 0 ≡ nth (λ e. out (p.column (chunk_of p t i e))) (size p t) j)
     (ks_are : (j : ℕ) → j < n → get_or ks j 0 ≡ nth (λ k. not (out (p.d' + k))) (parities p t) j) where
   abbrev gone : ℕ → Bool
@@ -44,7 +44,7 @@ module _ (A : Arithmetic) (L : Lawful A) (p : Scheme) (sound : Sound A p) (t : K
   parities_listed =
       renamed (parities p t) n (used p t i out) (nth held (parities p t)) (λ j. get_or ks j 0) (count held)
       (subst (λ (m : ℕ). Lists (parities p t) m (used p t i out) (nth held (parities p t)) (count held)) (sym n-is)
-      (firsts held (missing p t i out) (parities p t) (rebuilding.enough_used A L p sound t i out enough)))
+      (firsts held (missing_chunks p t i out) (parities p t) (rebuilding.enough_used A L p sound t i out enough)))
       ks_are
 
   pub few : n ≤ 4

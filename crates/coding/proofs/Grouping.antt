@@ -7,7 +7,7 @@ use Rattle.coding.specs.declared.group.Kind.{Kind}
 use Rattle.coding.specs.declared.group.Kind.TheVariants.{Stripe, Row}
 use Rattle.coding.specs.Schemes.{Scheme, Sound}
 use Rattle.coding.specs.Groups.{groups, size, parities, member, chunk_of, index_of, share, parity, count}
-use Rattle.coding.specs.Words.{missing}
+use Rattle.coding.specs.Words.{missing_chunks}
 use Rattle.coding.proofs.Listed.{Lists}
 use Rattle.coding.proofs.Counting.{count_listed}
 use Rattle.coding.proofs.Parities.{listed, listed_where}
@@ -74,7 +74,7 @@ module _ (A : Arithmetic) (p : Scheme) (sound : Sound A p) where
   few_parities Row = sound.few'
 
   -- the chunks of a group that are out, by their places in it
-  pub missing_is : (t : Kind) (i : ℕ) (out : ℕ → Bool) → i < groups p t → missing p t i out ≡ count (λ e. out (p.column (chunk_of p t i e))) (size p t)
+  pub missing_is : (t : Kind) (i : ℕ) (out : ℕ → Bool) → i < groups p t → missing_chunks p t i out ≡ count (λ e. out (p.column (chunk_of p t i e))) (size p t)
   missing_is t i out li =
       count_listed p.chunks (size p t) (member p t i) (λ j. out (p.column j)) (chunk_of p t i) (index_of p t) (members t i li)
 

@@ -11,7 +11,7 @@ use Rattle.coding.specs.declared.group.Kind.{Kind}
 use Rattle.coding.specs.declared.group.Kind.TheVariants.{Stripe, Row}
 use Rattle.coding.specs.Schemes.{scheme_of}
 use Rattle.coding.specs.Groups.{groups, size, parities, chunk_of, count}
-use Rattle.coding.specs.Words.{misses}
+use Rattle.coding.specs.Words.{missing_pieces}
 use Rattle.coding.proofs.Counting.{count_none, at_most_one}
 use Rattle.coding.proofs.OfPlan as plan
 
@@ -66,18 +66,18 @@ module _ (p : Plan) where
     parities_out : ℕ
     parities_out = count (λ k. out (p.d2 + k)) (parities (scheme_of p) t)
 
-    misses_is : misses (scheme_of p) t i out ≡ chunks_out + parities_out
+    misses_is : missing_pieces (scheme_of p) t i out ≡ chunks_out + parities_out
     unfolding chunks_out parities_out
     misses_is = ap (λ (n : ℕ). n + count (λ k. out (p.d2 + k)) (parities (scheme_of p) t)) (plan.missing_is p t i out li)
 
-    pub none_out : ((k : ℕ) → out k ≡ false) → misses (scheme_of p) t i out ≡ 0
+    pub none_out : ((k : ℕ) → out k ≡ false) → missing_pieces (scheme_of p) t i out ≡ 0
     unfolding chunks_out parities_out
     none_out none =
         let a : chunks_out ≡ 0 = count_none _ (size (scheme_of p) t) (λ e _. none _) in
         let b : parities_out ≡ 0 = count_none _ (parities (scheme_of p) t) (λ k _. none _) in
         omega (arith, misses_is)
 
-    pub one_out : (m : ℕ) → Only out m → misses (scheme_of p) t i out ≤ parities (scheme_of p) t
+    pub one_out : (m : ℕ) → Only out m → missing_pieces (scheme_of p) t i out ≤ parities (scheme_of p) t
     unfolding chunks_out parities_out
     one_out m only =
         ⊎_elim

@@ -10,7 +10,7 @@ use Rattle.coding.specs.declared.group.Kind.{Kind}
 use Rattle.coding.specs.declared.group.Kind.TheVariants.{Stripe, Row}
 use Rattle.coding.specs.Schemes.{Sound, scheme_of}
 use Rattle.coding.specs.Groups.{groups, size, parities, chunk_of, count}
-use Rattle.coding.specs.Words.{missing}
+use Rattle.coding.specs.Words.{missing_chunks}
 use Rattle.coding.proofs.Grouping as grouping
 
 pub sound : (p : Plan) (A : Arithmetic) → A.order ≡ p.order → Sound A (scheme_of p)
@@ -64,5 +64,5 @@ blank q = record { order = q; add = λ a b. a; neg = λ a. a; mul = λ a b. a; i
 
 -- the chunks of a group of a plan that are out, by their places in it
 pub missing_is : (p : Plan) (t : Kind) (i : ℕ) (out : ℕ → Bool) → i < groups (scheme_of p) t →
-    missing (scheme_of p) t i out ≡ count (λ e. out ((scheme_of p).column (chunk_of (scheme_of p) t i e))) (size (scheme_of p) t)
+    missing_chunks (scheme_of p) t i out ≡ count (λ e. out ((scheme_of p).column (chunk_of (scheme_of p) t i e))) (size (scheme_of p) t)
 missing_is p t i out li = grouping.missing_is (blank p.order) (scheme_of p) (sound p (blank p.order) refl) t i out li

@@ -13,13 +13,13 @@ pub record Found (xs : List Bool) (e : ℕ) (list : List ℕ) (n : ℕ) : Type 0
   pub size : length list ≡ 4
   pub count_is : n ≡ count (flags xs) e
   pub are : (j : ℕ) → j < 4 → j < n → get_or list j 0 ≡ nth (flags xs) e j
-  pub inside : (j : ℕ) → j < 4 → get_or list j 0 < 14
+  pub inside : (j : ℕ) → j < 4 → get_or list j 0 < length xs
 
-zeros_low : (j : ℕ) → j < 4 → get_or (replicate 4 0) j 0 < 14
-zeros_low j h = subst (λ (x : ℕ). x < 14) (sym (get_or-replicate 4 j 0 0 h)) (omega arith)
+zeros_low : (n j : ℕ) → 0 < n → j < 4 → get_or (replicate 4 0) j 0 < n
+zeros_low n j l h = subst (λ (x : ℕ). x < n) (sym (get_or-replicate 4 j 0 0 h)) l
 
-pub begun : (xs : List Bool) → Found xs 0 (0 ∷ 0 ∷ 0 ∷ 0 ∷ []) 0
-begun xs = record { size = refl; count_is = refl; are = λ j _ h. absurd (not-suc-le-zero h); inside = zeros_low }
+pub begun : (xs : List Bool) → 0 < length xs → Found xs 0 (0 ∷ 0 ∷ 0 ∷ 0 ∷ []) 0
+begun xs l = record { size = refl; count_is = refl; are = λ j _ h. absurd (not-suc-le-zero h); inside = λ j. zeros_low (length xs) j l }
 
 module _ (xs : List Bool) (e : ℕ) (list : List ℕ) (n : ℕ) (f : Found xs e list n) where
   pub found_le : n ≤ e
@@ -49,7 +49,7 @@ module _ (xs : List Bool) (e : ℕ) (list : List ℕ) (n : ℕ) (f : Found xs e 
     more = ap (λ m. m + 1) f.count_is ∙ sym (ap (λ b. count (flags xs) e + cond b 1 0) q)
 
     -- one that is set, and noted
-    pub noted : n < 4 → e < 14 → Found xs (e + 1) (set list n e) (n + 1)
+    pub noted : n < 4 → e < length xs → Found xs (e + 1) (set list n e) (n + 1)
     noted l le =
         subst (λ (i : ℕ). Found xs i (set list n e) (n + 1)) (sym (add-one e))
         (record {
@@ -59,8 +59,8 @@ module _ (xs : List Bool) (e : ℕ) (list : List ℕ) (n : ℕ) (f : Found xs e 
               (λ (s : j ≡ n). subst (λ (i : ℕ). get_or (set list n e) i 0 ≡ nth (flags xs) (suc e) i) (sym s) (get_or-set_same list n e 0 (omega (arith, f.size)) ∙ sym last))
               (λ (ne : j ≢ n). get_or-set_other list n j e 0 ne ∙ f.are j lj (omega arith) ∙ sym (before j (omega arith)));
           inside = λ j lj. by_cases (ℕ_discrete j n)
-              (λ (s : j ≡ n). subst (λ (i : ℕ). get_or (set list n e) i 0 < 14) (sym s) (subst (λ (x : ℕ). x < 14) (sym (get_or-set_same list n e 0 (omega (arith, f.size)))) le))
-              (λ (ne : j ≢ n). subst (λ (x : ℕ). x < 14) (sym (get_or-set_other list n j e 0 ne)) (f.inside j lj));
+              (λ (s : j ≡ n). subst (λ (i : ℕ). get_or (set list n e) i 0 < length xs) (sym s) (subst (λ (x : ℕ). x < length xs) (sym (get_or-set_same list n e 0 (omega (arith, f.size)))) le))
+              (λ (ne : j ≢ n). subst (λ (x : ℕ). x < length xs) (sym (get_or-set_other list n j e 0 ne)) (f.inside j lj));
         })
 
     -- one past the fourth

@@ -10,7 +10,7 @@ use Rattle.field.proofs.Codes.{Code, field, code, one_number, code_inv, code_min
 use Rattle.coding.specs.declared.group.Kind.{Kind}
 use Rattle.coding.specs.Schemes.{Scheme, Sound}
 use Rattle.coding.specs.Groups.{groups, size, parities, member, chunk_of, index_of, share, parity, count, nth}
-use Rattle.coding.specs.Words.{missing, misses, used, Fixed, OneWord}
+use Rattle.coding.specs.Words.{missing_chunks, missing_pieces, used, Fixed, OneWord}
 use Rattle.coding.specs.Repairs.{Rebuilt}
 use Rattle.rack.specs.Meaning.{Meaning}
 use Rattle.coding.proofs.Listed.{Lists}
@@ -160,17 +160,17 @@ module _ (A : Arithmetic) (L : Lawful A) (p : Scheme) (sound : Sound A p) where
   fixes g gone held v w apart enough hv hw alike j lj t = by g gone held v w apart enough hv hw alike j lj t (gone j) refl
 
   -- there are as many parities in use as chunks are out
-  pub enough_used : (t : Kind) (i : ℕ) (out : ℕ → Bool) → misses p t i out ≤ parities p t → missing p t i out ≤ count (λ q. not (out (p.d' + q))) (parities p t)
+  pub enough_used : (t : Kind) (i : ℕ) (out : ℕ → Bool) → missing_pieces p t i out ≤ parities p t → missing_chunks p t i out ≤ count (λ q. not (out (p.d' + q))) (parities p t)
   enough_used t i out h = omega (arith, count_not (λ k. out (p.d' + k)) (parities p t))
 
-  pub used_count : (t : Kind) (i : ℕ) (out : ℕ → Bool) → misses p t i out ≤ parities p t → count (used p t i out) (parities p t) ≡ missing p t i out
-  used_count t i out h = count_first_all (λ q. not (out (p.d' + q))) (missing p t i out) (parities p t) (enough_used t i out h)
+  pub used_count : (t : Kind) (i : ℕ) (out : ℕ → Bool) → missing_pieces p t i out ≤ parities p t → count (used p t i out) (parities p t) ≡ missing_chunks p t i out
+  used_count t i out h = count_first_all (λ q. not (out (p.d' + q))) (missing_chunks p t i out) (parities p t) (enough_used t i out h)
 
   -- the first pieces fix the group
   pub one_word : OneWord A p
   one_word t i out w o v u li enough fv fu j lj tj =
       let held : ℕ → Bool = λ k. ltb k (parities p t) && used p t i out k in
-      let all : count held 4 ≡ missing p t i out = count_cut (used p t i out) (parities p t) 4 (grouping.few_parities A p sound t) ∙ used_count t i out enough in
+      let all : count held 4 ≡ missing_chunks p t i out = count_cut (used p t i out) (parities p t) 4 (grouping.few_parities A p sound t) ∙ used_count t i out enough in
       fixes (member p t i) (λ j. out (p.column j)) held v u (grouping.apart A p sound t i) (omega (arith, all)) fv.codes fu.codes
       (record {
         chunks = λ j lj t q. fv.on_chunks j lj t q ∙ sym (fu.on_chunks j lj t q);
@@ -182,7 +182,7 @@ module _ (A : Arithmetic) (L : Lawful A) (p : Scheme) (sound : Sound A p) where
       j lj tj
 
   -- where the rack holds the pieces of a word, what a repair answers is that word
-  pub recovered : (t : Kind) (i : ℕ) (out : ℕ → Bool) (w : Meaning) (o : ℕ) (a : List ℕ) (v : ℕ → ℕ) → i < groups p t → misses p t i out ≤ parities p t →
+  pub recovered : (t : Kind) (i : ℕ) (out : ℕ → Bool) (w : Meaning) (o : ℕ) (a : List ℕ) (v : ℕ → ℕ) → i < groups p t → missing_pieces p t i out ≤ parities p t →
       Rebuilt A p t i out w o a → Fixed A p t i out w o v → (e : ℕ) → e < size p t → get_or a e 0 ≡ v (chunk_of p t i e)
   recovered t i out w o a v li enough r fv e le =
       let lists = grouping.members A p sound t i li in

@@ -1,8 +1,9 @@
 -- What a repair answers is a word of the group's code. Assumes nothing.
-use Rattle.std.proofs.Common.{◌≡◌, ℕ, zero, suc, ◌+◌, ◌<◌, ◌≤◌, Bool, true, false, not, ◌≢◌, List, [], length, get_or, sym, refl, ap, ◌∙◌, subst, inr, ⊎_elim, not-suc-le-zero, arith, length-set, get_or-set_other, get_or-set_same}
+use Rattle.std.proofs.Common.{◌≡◌, ℕ, zero, suc, ◌+◌, ◌<◌, ◌≤◌, Bool, true, false, cond, not, ◌&&◌, ltb, ◌≢◌, List, [], length, get_or, replicate, Some, None, Option, sym, refl, ap, ◌∙◌, subst, inr, ⊎_elim, not-suc-le-zero, arith, length-set, get_or-set_other, get_or-set_same}
 use mathlib.Core.Logic.{by_cases}
 use native.Mathlib.Decide.{ℕ_discrete}
-use Rattle.std.proofs.lemmas.Bool.{cases_lt, both_ways}
+use lib.ListN.{get_or-replicate}
+use Rattle.std.proofs.lemmas.Bool.{cases_lt, both_ways, and_parts, and_from, ltb-true, lt-ltb}
 use Rattle.field.specs.Arithmetic.{Arithmetic, Lawful}
 use Rattle.field.specs.Sums.{total, minus, coefficient}
 use Rattle.field.specs.Systems.{at, Solves, cauchy}
@@ -15,7 +16,7 @@ use Rattle.coding.specs.Schemes.{Scheme}
 use Rattle.coding.specs.Groups.{size, parities, member, chunk_of, index_of, slot_of, share, parity, count}
 use Rattle.coding.specs.Words.{used}
 use Rattle.coding.specs.Steps.{scattered}
-use Rattle.coding.specs.Repairs.{Ready, Known, Sides, Unknowns, Rebuilt}
+use Rattle.coding.specs.Repairs.{Ready, Known, Sources, Sides, Unknowns, Rebuilt, used_parity}
 use Rattle.coding.proofs.Listed.{Lists}
 use Rattle.coding.proofs.Sums as sums
 use Rattle.coding.proofs.Chosen as chosen
@@ -24,26 +25,26 @@ use Rattle.coding.proofs.Grouping as grouping
 use Rattle.coding.proofs.Weighted.{weighted}
 
 -- what is put in its places stands there, where no place comes twice
-module _ (a places us : List ℕ) where
+module _ {X : Type 0} (a : List X) (places : List ℕ) (us : ℕ → X) (d : X) where
   pub scattered_length : (n : ℕ) → length (scattered a places us n) ≡ length a
   scattered_length zero = refl
-  scattered_length (suc n) = length-set (scattered a places us n) (get_or places n 0) (get_or us n 0) ∙ scattered_length n
+  scattered_length (suc n) = length-set (scattered a places us n) (get_or places n 0) (us n) ∙ scattered_length n
 
-  pub scattered_other : (n e : ℕ) → ((j : ℕ) → j < n → get_or places j 0 ≢ e) → get_or (scattered a places us n) e 0 ≡ get_or a e 0
+  pub scattered_other : (n e : ℕ) → ((j : ℕ) → j < n → get_or places j 0 ≢ e) → get_or (scattered a places us n) e d ≡ get_or a e d
   scattered_other zero e h = refl
   scattered_other (suc n) e h =
-      get_or-set_other (scattered a places us n) (get_or places n 0) e (get_or us n 0) 0 (λ s. h n (omega arith) (sym s)) ∙ scattered_other n e (λ j l. h j (omega arith))
+      get_or-set_other (scattered a places us n) (get_or places n 0) e (us n) d (λ s. h n (omega arith) (sym s)) ∙ scattered_other n e (λ j l. h j (omega arith))
 
   pub scattered_at : (n j : ℕ) → j < n → ((k : ℕ) → k < n → get_or places k 0 < length a) → ((i k : ℕ) → i < n → k < n → get_or places i 0 ≡ get_or places k 0 → i ≡ k) →
-      get_or (scattered a places us n) (get_or places j 0) 0 ≡ get_or us j 0
+      get_or (scattered a places us n) (get_or places j 0) d ≡ us j
   scattered_at zero j l inside once = absurd (not-suc-le-zero l)
   scattered_at (suc n) j l inside once =
       by_cases (ℕ_discrete j n)
       (λ (s : j ≡ n).
-      subst (λ (i : ℕ). get_or (scattered a places us (suc n)) (get_or places i 0) 0 ≡ get_or us i 0) (sym s)
-      (get_or-set_same (scattered a places us n) (get_or places n 0) (get_or us n 0) 0 (omega (arith, scattered_length n, inside n (omega arith)))))
+      subst (λ (i : ℕ). get_or (scattered a places us (suc n)) (get_or places i 0) d ≡ us i) (sym s)
+      (get_or-set_same (scattered a places us n) (get_or places n 0) (us n) d (omega (arith, scattered_length n, inside n (omega arith)))))
       (λ (ne : j ≢ n).
-      get_or-set_other (scattered a places us n) (get_or places n 0) (get_or places j 0) (get_or us n 0) 0 (λ s. ne (once j n (omega arith) (omega arith) s))
+      get_or-set_other (scattered a places us n) (get_or places n 0) (get_or places j 0) (us n) d (λ s. ne (once j n (omega arith) (omega arith) s))
       ∙ scattered_at n j (omega arith) (λ k h. inside k (omega arith)) (λ i k hi hk. once i k (omega arith) (omega arith)))
 
 module _ (A : Arithmetic) (L : Lawful A) where
@@ -103,10 +104,46 @@ module _ (A : Arithmetic) (L : Lawful A) where
     few =
         chosen.few A L p ready.sound t i ready.inside out ready.enough s.count s.missing s.parities ready.count_is ready.missing_are ready.parities_are
 
-    module _ (w : Meaning) (bounded : Bounded w) (order_is : w.order ≡ A.order) (o : ℕ) (a b u : List ℕ) (long : length a ≡ 14)
-        (known : Known s w o a) (sides : Sides A s w o a b) (unknowns : Unknowns A s b u) where
+    -- the parities that are used, by their numbers
+    module _ (w : Meaning) (o : ℕ) (ps : List ℕ) (sources : Sources s w o ps) where
+      abbrev blank : List (Option ℕ)
+      blank = replicate 4 None
+
+      abbrev all : List (Option ℕ)
+      all = scattered blank s.parities (λ j. Some (get_or ps j 0)) s.count
+
+      source_is : (j : ℕ) → j < s.count → get_or ps j 0 ≡ w.symbol (p.d' + ks j) (slot_of p t i) o
+      source_is j h = sources j h ∙ ap (λ m. w.symbol m s.group.slot o) (ready.sources_are j h) ∙ ap (λ c. w.symbol (p.d' + ks j) c o) ready.grouped.slot_is
+
+      once_used : (j k : ℕ) → j < s.count → k < s.count → ks j ≡ ks k → j ≡ k
+      once_used j k hj hk e = sym (parities_listed.place j hj) ∙ ap (count held) e ∙ parities_listed.place k hk
+
+      at_used : (j : ℕ) → j < s.count → get_or all (ks j) None ≡ Some (w.symbol (p.d' + ks j) (slot_of p t i) o)
+      at_used j h =
+          scattered_at blank s.parities (λ j. Some (get_or ps j 0)) None s.count j h
+          (λ k l. let four : length blank ≡ 4 = refl in omega (arith, parities_listed.below k l, grouping.few_parities A p ready.sound t)) once_used
+          ∙ ap (λ (x : ℕ). Some x) (source_is j h)
+
+      uses_by : (k : ℕ) → k < 4 → (q : Bool) → (ltb k (parities p t) && used p t i out k) ≡ q → get_or all k None ≡ cond q (Some (w.symbol (p.d' + k) (slot_of p t i) o)) None
+      uses_by k l true q =
+          let b = and_parts (ltb k (parities p t)) (used p t i out k) q in
+          let lk : k < parities p t = ltb-true k (parities p t) b.0 in
+          subst (λ (x : ℕ). get_or all x None ≡ Some (w.symbol (p.d' + x) (slot_of p t i) o)) (parities_listed.back k lk b.1)
+          (at_used (count held k) (parities_listed.placed k lk b.1))
+      uses_by k l false q =
+          scattered_other blank s.parities (λ j. Some (get_or ps j 0)) None s.count k
+          (λ j h is.
+          both_ways (ltb k (parities p t) && used p t i out k) q
+          (and_from _ _ (lt-ltb k (parities p t) (omega (arith, parities_listed.below j h))) (ap (used p t i out) (sym is) ∙ parities_listed.pass j h)))
+          ∙ get_or-replicate 4 k None None l
+
+      pub uses : (k : ℕ) → k < 4 → get_or all k None ≡ used_parity p t i out w o k
+      uses k l = uses_by k l (ltb k (parities p t) && used p t i out k) refl
+
+    module _ (w : Meaning) (bounded : Bounded w) (order_is : w.order ≡ A.order) (o : ℕ) (a ps b u : List ℕ) (long : length a ≡ 14)
+        (known : Known s w o a) (sources : Sources s w o ps) (sides : Sides A s a ps b) (unknowns : Unknowns A s b u) where
       r : List ℕ
-      r = scattered a s.missing u s.count
+      r = scattered a s.missing (λ j. get_or u j 0) s.count
 
       chunk : ℕ → ℕ
       chunk e = chunk_of p t i e
@@ -117,17 +154,17 @@ module _ (A : Arithmetic) (L : Lawful A) where
       at_missing : (j : ℕ) → j < s.count → get_or r (ms j) 0 ≡ get_or u j 0
       unfolding r
       at_missing j h =
-          scattered_at a s.missing u s.count j h (λ k l. omega (arith, chunks_listed.below k l, ready.grouped.short, long)) once
+          scattered_at a s.missing (λ j. get_or u j 0) 0 s.count j h (λ k l. omega (arith, chunks_listed.below k l, ready.grouped.short, long)) once
 
       at_left : (e : ℕ) → e < size p t → gone e ≡ false → get_or r e 0 ≡ get_or a e 0
       unfolding r
       at_left e l q =
-          scattered_other a s.missing u s.count e (λ j h is. both_ways (gone e) q (ap gone (sym is) ∙ chunks_listed.pass j h))
+          scattered_other a s.missing (λ j. get_or u j 0) 0 s.count e (λ j h is. both_ways (gone e) q (ap gone (sym is) ∙ chunks_listed.pass j h))
 
       at_rest : (e : ℕ) → size p t ≤ e → get_or r e 0 ≡ 0
       unfolding r
       at_rest e l =
-          scattered_other a s.missing u s.count e (λ j h is. omega (arith, chunks_listed.below j h, is))
+          scattered_other a s.missing (λ j. get_or u j 0) 0 s.count e (λ j h is. omega (arith, chunks_listed.below j h, is))
           ∙ known.rest e (omega (arith, ready.grouped.size_is))
 
       symbol_below : (m c : ℕ) → w.symbol m c o < A.order
@@ -170,7 +207,7 @@ module _ (A : Arithmetic) (L : Lawful A) where
         weight e = coefficient A (ks j) (p.x (chunk e))
 
         symbol : ℕ
-        symbol = w.symbol (get_or s.sources j 0) s.group.slot o
+        symbol = w.symbol (p.d' + ks j) (slot_of p t i) o
 
         left : ℕ
         left = total A (size p t) (λ e. A.mul (weight e) (get_or a e 0))
@@ -197,7 +234,7 @@ module _ (A : Arithmetic) (L : Lawful A) where
         equation =
             split (size p t) s.count gone ms (count gone) chunks_listed weight (λ e. get_or r e 0) (λ e. get_or a e 0)
             (λ e l q. known.none e (ready.gone_is e l ∙ q)) at_left
-            ∙ ap (A.add left) (of_missing ∙ sides j h ∙ ap (minus A symbol) of_left)
+            ∙ ap (A.add left) (of_missing ∙ sides j h ∙ (λ i. minus A (source_is w o ps sources j h i) (of_left i)))
             ∙ L.add_comm left (minus A symbol left) ∙ restored A L symbol left (symbol_below _ _)
 
       v : ℕ → ℕ
@@ -213,9 +250,9 @@ module _ (A : Arithmetic) (L : Lawful A) where
           grouping.group_sum A p ready.sound L (ks j) v i t ready.inside
           ∙ total_same A L (size p t) (λ e. share A p (ks j) (chunk e) (v (chunk e))) (λ e. A.mul (weight j h e) (get_or r e 0))
           (λ e l. ap (λ k. A.mul (weight j h e) (get_or r k 0)) (members.place e l))
-          ∙ equation j h ∙ ap (λ m. w.symbol m s.group.slot o) (ready.sources_are j h) ∙ ap (λ c. w.symbol (p.d' + ks j) c o) ready.grouped.slot_is
+          ∙ equation j h
 
-      pub rebuilt : Rebuilt A p t i out w o (scattered a s.missing u s.count)
+      pub rebuilt : Rebuilt A p t i out w o (scattered a s.missing (λ j. get_or u j 0) s.count)
       unfolding r v chunk
       rebuilt =
           record {

@@ -40,3 +40,7 @@ abbrev pub ParityOf : Arithmetic → Group → ℕ → List ℕ → ℕ → Type
 ParityOf A g k a r =
     (p : Scheme) (t : Kind) (i : ℕ) (v : ℕ → ℕ) → Sound A p → i < groups p t → Grouped p t i g →
     ((e : ℕ) → e < size p t → v (chunk_of p t i e) ≡ slice_index a e) → r ≡ parity A p (member p t i) k v
+
+-- r is the parity that the coefficients ws are of
+abbrev pub ParityBy : Arithmetic → List ℕ → List ℕ → ℕ → Type 0
+ParityBy A ws a r = (g : Group) (k : ℕ) → Weights A g k ws → ParityOf A g k a r

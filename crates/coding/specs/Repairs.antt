@@ -1,33 +1,29 @@
 -- What a repair is, and what it answers. Assumes nothing.
-use Rattle.std.specs.Prelude.{◌≡◌, ℕ, ◌+◌, ◌<◌, ◌≤◌, Bool, true, false, not, List, [], Ok, Err, Result, slice_index, slice_index_or}
+use Rattle.std.specs.Prelude.{◌≡◌, ℕ, ◌+◌, ◌<◌, ◌≤◌, Bool, true, false, cond, not, ◌&&◌, List, [], Some, None, Ok, Err, Option, Result, nat_lt, slice_index, slice_index_or}
 use Rattle.field.specs.Arithmetic.{Arithmetic}
 use Rattle.field.specs.Sums.{total, minus}
 use Rattle.field.specs.Systems.{Inverse, at}
 use Rattle.layout.specs.declared.plan.Plan.{Plan}
 use Rattle.layout.specs.declared.refusal.Refusal.{Refusal}
-use Rattle.layout.specs.declared.refusal.Layer.TheVariants.{Coding}
+use Rattle.layout.specs.declared.refusal.Refusal.TheVariants.{BeyondRepair}
 use Rattle.rack.specs.Meaning.{Meaning}
 use Rattle.coding.specs.declared.group.Kind.{Kind}
 use Rattle.coding.specs.declared.repair.Repair.{Repair}
 use Rattle.coding.specs.Schemes.{Scheme, Sound, scheme_of}
-use Rattle.coding.specs.Groups.{groups, size, parities, chunk_of, index_of, nth}
-use Rattle.coding.specs.Words.{missing, misses, Fixed}
+use Rattle.coding.specs.Groups.{groups, size, parities, chunk_of, index_of, slot_of, nth}
+use Rattle.coding.specs.Words.{missing_chunks, missing_pieces, used, Fixed}
 use Rattle.coding.specs.Pieces.{Grouped, Weights}
 use Rattle.coding.specs.Steps.{flags}
-
--- 14: a group misses more pieces than it has parities; the place is its number
-abbrev pub too_many : ℕ → Refusal
-too_many i = record { number = 14; layer = Coding; place = i }
 
 -- s is ready to rebuild group i where the modules that out tells are out
 pub record Ready (A : Arithmetic) (p : Scheme) (t : Kind) (i : ℕ) (out : ℕ → Bool) (s : Repair) : Type 0 where
   pub sound : Sound A p
   pub inside : i < groups p t
-  pub enough : misses p t i out ≤ parities p t
+  pub enough : missing_pieces p t i out ≤ parities p t
   pub grouped : Grouped p t i s.group
   -- which chunks are out, how many they are, and where they stand in the group
   pub gone_is : (e : ℕ) → e < size p t → flags s.gone e ≡ out (p.column (chunk_of p t i e))
-  pub count_is : s.count ≡ missing p t i out
+  pub count_is : s.count ≡ missing_chunks p t i out
   pub missing_are : (j : ℕ) → j < s.count → slice_index s.missing j ≡ nth (λ e. out (p.column (chunk_of p t i e))) (size p t) j
   -- as many parities, the first that are not out, and their modules
   pub parities_are : (j : ℕ) → j < s.count → slice_index s.parities j ≡ nth (λ k. not (out (p.d' + k))) (parities p t) j
@@ -40,10 +36,10 @@ pub record Ready (A : Arithmetic) (p : Scheme) (t : Kind) (i : ℕ) (out : ℕ �
 -- what `prepare` answers: it refuses a group that misses more pieces than it has parities, and one that is not there
 abbrev pub Prepared : Plan → Arithmetic → Kind → ℕ → List Bool → Result Repair Refusal → Type 0
 Prepared p A t i out (Ok s) =
-    (i < groups (scheme_of p) t) × (misses (scheme_of p) t i (flags out) ≤ parities (scheme_of p) t)
+    (i < groups (scheme_of p) t) × (missing_pieces (scheme_of p) t i (flags out) ≤ parities (scheme_of p) t)
     × (A.order ≡ p.order → Ready A (scheme_of p) t i (flags out) s)
 Prepared p A t i out (Err e) =
-    (i < groups (scheme_of p) t → parities (scheme_of p) t < misses (scheme_of p) t i (flags out)) × (e ≡ too_many i)
+    (i < groups (scheme_of p) t → parities (scheme_of p) t < missing_pieces (scheme_of p) t i (flags out)) × (e ≡ BeyondRepair i)
 
 -- the symbols of the chunks that are left, as the rack has them, and zeros in the other places
 pub record Known (s : Repair) (w : Meaning) (o : ℕ) (a : List ℕ) : Type 0 where
@@ -51,11 +47,13 @@ pub record Known (s : Repair) (w : Meaning) (o : ℕ) (a : List ℕ) : Type 0 wh
   pub none : (e : ℕ) → flags s.gone e ≡ true → slice_index a e ≡ 0
   pub rest : (e : ℕ) → s.group.size ≤ e → slice_index a e ≡ 0
 
+-- the symbols of the parities that are used, as the rack has them
+abbrev pub Sources : Repair → Meaning → ℕ → List ℕ → Type 0
+Sources s w o ps = (j : ℕ) → j < s.count → slice_index ps j ≡ w.symbol (slice_index s.sources j) s.group.slot o
+
 -- the sides of the equations: each parity that is used, less what the chunks that are left add to it
-abbrev pub Sides : Arithmetic → Repair → Meaning → ℕ → List ℕ → List ℕ → Type 0
-Sides A s w o a b =
-    (j : ℕ) → j < s.count →
-    slice_index b j ≡ minus A (w.symbol (slice_index s.sources j) s.group.slot o) (total A 14 (λ e. A.mul (at s.coefficients j e) (slice_index a e)))
+abbrev pub Sides : Arithmetic → Repair → List ℕ → List ℕ → List ℕ → Type 0
+Sides A s a ps b = (j : ℕ) → j < s.count → slice_index b j ≡ minus A (slice_index ps j) (total A 14 (λ e. A.mul (at s.coefficients j e) (slice_index a e)))
 
 -- what the inverse gives for the sides
 abbrev pub Unknowns : Arithmetic → Repair → List ℕ → List ℕ → Type 0
@@ -69,3 +67,12 @@ pub record Rebuilt (A : Arithmetic) (p : Scheme) (t : Kind) (i : ℕ) (out : ℕ
 -- of every group that s is ready for
 abbrev pub Answers : Arithmetic → Repair → Meaning → ℕ → List ℕ → Type 0
 Answers A s w o a = (p : Scheme) (t : Kind) (i : ℕ) (out : ℕ → Bool) → Ready A p t i out s → Rebuilt A p t i out w o a
+
+-- the symbol of parity k of a group at offset o, if the parity is used to rebuild the group
+abbrev pub used_parity : Scheme → Kind → ℕ → (ℕ → Bool) → Meaning → ℕ → ℕ → Option ℕ
+used_parity p t i out w o k = cond (nat_lt k (parities p t) && used p t i out k) (Some (w.symbol (p.d' + k) (slot_of p t i) o)) None
+
+-- a has the parities that a repair uses, by their numbers, of every group that s is ready for
+abbrev pub Uses : Arithmetic → Repair → Meaning → ℕ → List (Option ℕ) → Type 0
+Uses A s w o a =
+    (p : Scheme) (t : Kind) (i : ℕ) (out : ℕ → Bool) → Ready A p t i out s → (k : ℕ) → k < 4 → slice_index_or a k None ≡ used_parity p t i out w o k

@@ -1,6 +1,6 @@
 // The parities of a group.
 ghost use Rattle.std.specs.Prelude.{◌≡◌, ◌<◌, if◌then◌else◌, nat_lt, slice_index};
-ghost use Rattle.coding.specs.Pieces.{ParityOf, Weights};
+ghost use Rattle.coding.specs.Pieces.{ParityBy, Weights};
 ghost use Rattle.field.specs.Sums.{coefficient, total};
 
 use crate::group::Group;
@@ -37,10 +37,11 @@ pub(crate) fn products<F: Field, const N: usize>(field: &F, a: [u16; N], b: [u16
     sum_of_products(field, &a, &b)
 }
 
-/// Parity `k` of the group, whose chunks, in their order, have these symbols.
-pub fn parity_of<F: Field>(field: &F, group: &Group, k: u8, chunks: [u16; 14]) -> u16
-    ensures is { ParityOf (F.arithmetic field.now) group.now k chunks result }
+/// The parity with these coefficients, of a group whose chunks, in their order, have these symbols.
+pub fn parity_of<F: Field>(field: &F, weights: [u16; 14], chunks: [u16; 14]) -> u16
+    ensures sum { result ≡ total (F.arithmetic field.now) 14 (λ e. (F.arithmetic field.now).mul (slice_index weights e) (slice_index chunks e)) }
+    ensures is { ParityBy (F.arithmetic field.now) weights chunks result }
     ensures below { result < (F.arithmetic field.now).order }
 {
-    products(field, weights(field, group, k), chunks)
+    products(field, weights, chunks)
 }

@@ -1,10 +1,11 @@
 // Making a repair.
-ghost use Rattle.std.specs.Prelude.{◌≡◌, ℕ, ◌+◌, ◌<◌, ◌≤◌, not, ◌&&◌, [], length, nat_lt, slice_index, slice_index_or};
+ghost use Rattle.std.specs.Prelude.{◌≡◌, ℕ, ◌+◌, ◌<◌, ◌≤◌, true, not, ◌&&◌, [], length, nat_lt, slice_index, slice_index_or};
+ghost use Rattle.coding.specs.Groups.{count, groups, parities};
 ghost use Rattle.coding.specs.Pieces.{Weights};
-ghost use Rattle.coding.specs.Repairs.{Prepared, too_many};
+ghost use Rattle.coding.specs.Repairs.{Prepared};
 ghost use Rattle.coding.specs.Schemes.{scheme_of};
-ghost use Rattle.coding.specs.Steps.{Gone, Held, Positions, flags};
-ghost use Rattle.coding.specs.Words.{OneWord};
+ghost use Rattle.coding.specs.Steps.{Gone, Left, Positions, flags};
+ghost use Rattle.coding.specs.Words.{OneWord, missing_pieces};
 ghost use Rattle.field.specs.Systems.{Inverse, Posed};
 
 use crate::group::{Group, Kind};
@@ -12,7 +13,7 @@ use crate::parity::weights;
 use crate::repair::Repair;
 use field::{Field, invert};
 use layout::plan::Plan;
-use layout::refusal::{Layer, Refusal};
+use layout::refusal::Refusal;
 
 /// Whether a module is one of those that are out.
 fn is_out(out: [bool; 32], module: u16) -> bool
@@ -53,7 +54,7 @@ fn is_held(group: &Group, out: [bool; 32], k: u16) -> bool
 /// Whether each parity of the group is left.
 fn held_of(group: &Group, out: [bool; 32]) -> [bool; 4]
     requires { group.now.first ≤ 14 }
-    ensures { Held group.now out result }
+    ensures { Left group.now out result }
 {
     let mut held = [false; 4];
     for k in 0..4 {
@@ -64,7 +65,8 @@ fn held_of(group: &Group, out: [bool; 32]) -> [bool; 4]
 
 /// The places of the first four flags that are set, and how many are set in all.
 fn positions(xs: &[bool]) -> ([u8; 4], usize)
-    requires { length xs.now ≤ 14 }
+    requires some { 0 < length xs.now }
+    requires few { length xs.now ≤ 14 }
     ensures { Positions xs.now result.0 result.1 }
 {
     let mut list = [0; 4];
@@ -126,15 +128,26 @@ fn inverse_of<F: Field>(field: &F, n: usize, parities: [u8; 4], columns: [u8; 4]
     }
 }
 
-/// The refusal of a group that misses too many pieces.
-fn too_many(index: u16) -> Refusal
-    ensures { result ≡ too_many index }
+/// Whether more chunks are missing than parities are left.
+fn too_few(gone: [bool; 14], held: [bool; 4]) -> bool
+    ensures { result ≡ nat_lt (count (flags held) 4) (count (flags gone) 14) }
 {
-    Refusal {
-        number: 14,
-        layer: Layer::Coding,
-        place: index,
-    }
+    let (_, missing) = positions(&gone);
+    let (_, left) = positions(&held);
+    left < missing
+}
+
+/// Whether a group misses more pieces than it has parities. A group that is not there counts as one that does.
+pub fn is_beyond(plan: &Plan, kind: Kind, index: u16, out: [bool; 32]) -> bool
+    ensures there { index < groups (scheme_of plan.now) kind → result ≡ nat_lt (parities (scheme_of plan.now) kind) (missing_pieces (scheme_of plan.now) kind index (flags out)) }
+    ensures absent { groups (scheme_of plan.now) kind ≤ index → result ≡ true }
+{
+    let Some(group) = Group::of(plan, kind, index) else {
+        return true;
+    };
+    let gone = gone_of(&group, out);
+    let held = held_of(&group, out);
+    too_few(gone, held)
 }
 
 /// Works out how to rebuild a group where some modules are out: the missing chunks, the parities that stand in for them, and
@@ -150,14 +163,14 @@ pub fn prepare<F: Field>(
     ensures one_word { (F.arithmetic field.now).order ≡ plan.now.order → OneWord (F.arithmetic field.now) (scheme_of plan.now) }
 {
     let Some(group) = Group::of(plan, kind, index) else {
-        return Err(too_many(index));
+        return Err(Refusal::BeyondRepair(index));
     };
     let gone = gone_of(&group, out);
     let (missing, count) = positions(&gone);
     let held = held_of(&group, out);
     let (parities, left) = positions(&held);
     if count > left {
-        return Err(too_many(index));
+        return Err(Refusal::BeyondRepair(index));
     }
     let columns = columns_of(&group, missing);
     let sources = sources_of(&group, parities);

@@ -27,4 +27,14 @@ pub struct Repair {
     pub inverse: [[u16; 4]; 4],
     ghost few: { count ≤ 4 },
     ghost inside: { (j : ℕ) → j < 4 → slice_index missing j < 14 },
+    ghost numbers: { (j : ℕ) → j < 4 → slice_index parities j < 4 },
+}
+
+/// The symbols of a group's pieces at one offset.
+#[derive(Clone, Copy)]
+pub struct Pieces {
+    /// those of its chunks, in their order, and zeros after them
+    pub chunks: [u16; 14],
+    /// those of the parities that were fetched to rebuild its missing chunks, by the numbers of the parities
+    pub parities: [Option<u16>; 4],
 }

@@ -1,13 +1,14 @@
 -- The numbers that the calls from C answer. Assumes nothing.
 use Rattle.std.specs.Prelude.{ℕ, ◌+◌, ◌*◌, cond, Some, None, Option, nat_lt}
 use Rattle.layout.specs.declared.refusal.Refusal.{Refusal}
+use Rattle.layout.specs.Rules.{number}
 use Rattle.layout.specs.Placing.{chunks_of, row_at, column_at}
 use Rattle.layout.specs.Counts.{data_read, parities_read}
 
 -- 0, or the number of the refusal
 abbrev pub number_of : Option Refusal → ℕ
 number_of None = 0
-number_of (Some e) = e.number
+number_of (Some e) = number e
 
 -- what is answered for a refused plan or chunk
 abbrev pub nowhere : ℕ

@@ -2,7 +2,8 @@
 use Rattle.std.specs.Prelude.{◌≡◌, ℕ, ◌+◌, ◌*◌, ◌/◌, ◌%◌, Bool, true, false, cond, not, ◌||◌, List, [], ◌∷◌, length, Some, None, Ok, Err, Option, Result, ◌==◌, ◌≢◌, nat_lt, slice_index}
 use Rattle.layout.specs.declared.label.Label.{Label}
 use Rattle.layout.specs.declared.refusal.Refusal.{Refusal}
-use Rattle.layout.specs.Refusals.{not_a_label, plan_refusal, Has}
+use Rattle.layout.specs.declared.refusal.Refusal.TheVariants.{NotALabel}
+use Rattle.layout.specs.Refusals.{plan_refusal, Has}
 
 -- the bytes of numbers of 16 bits
 abbrev pub packed : List ℕ → List ℕ
@@ -25,7 +26,7 @@ number bytes i = slice_index bytes (2 * i) + 256 * slice_index bytes (2 * i + 1)
 -- why bytes are refused as a label: their form first, then the plan
 abbrev pub label_refusal : List ℕ → Option Refusal
 label_refusal bytes =
-    cond (not (length bytes == 16) || (not (number bytes 0 == 1) || nat_lt 1 (number bytes 7))) (Some not_a_label)
+    cond (not (length bytes == 16) || (not (number bytes 0 == 1) || nat_lt 1 (number bytes 7))) (Some NotALabel)
     (plan_refusal (number bytes 1) (number bytes 2) (number bytes 3) (number bytes 4) (number bytes 5) (number bytes 6))
 
 -- reading answers the label that the bytes are
@@ -36,7 +37,7 @@ Reads bytes (Err e) = label_refusal bytes ≡ Some e
 -- writing fills a buffer of 16 bytes, and leaves any other as it was
 abbrev pub Writes : Label → List ℕ → List ℕ → Result Unit Refusal → Type 0
 Writes m before after (Ok _) = (length before ≡ 16) × (after ≡ label_of m)
-Writes m before after (Err e) = (length before ≢ 16) × (e ≡ not_a_label) × (after ≡ before)
+Writes m before after (Err e) = (length before ≢ 16) × (e ≡ NotALabel) × (after ≡ before)
 
 -- a label that is written is not refused when it is read, and no other label has its bytes: reading gives plan and flag back
 pub record ReadsBack (m : Label) : Type 0 where

@@ -2,6 +2,7 @@ pub mod Placing
 pub mod Placement
 pub mod Promises
 pub mod Sizes
+pub mod Rules
 pub mod Refusals
 pub mod Counts
 pub mod Places

@@ -13,7 +13,7 @@ pub fn retain_plan_check(order: u16, d: u16, r: u16, d2: u16, r2: u16, len: u16)
 {
     match Plan::new(order, d, r, d2, r2, len) {
         Ok(_) => 0,
-        Err(e) => u32::from(e.number),
+        Err(e) => u32::from(e.number()),
     }
 }
 
@@ -23,7 +23,7 @@ pub fn retain_label_check(bytes: &[u8]) -> u32
 {
     match Label::read(bytes) {
         Ok(_) => 0,
-        Err(refusal) => u32::from(refusal.number),
+        Err(refusal) => u32::from(refusal.number()),
     }
 }
 

@@ -1,10 +1,9 @@
 // The label of a pool, by which it is opened again.
 ghost use Rattle.std.specs.Prelude.{◌≡◌, ◌<◌, length};
 ghost use Rattle.layout.specs.Labels.{Reads, Writes, ReadsBack, label_of, flag, number, packed};
-ghost use Rattle.layout.specs.Refusals.{not_a_label};
 
 use crate::plan::Plan;
-use crate::refusal::{Layer, Refusal};
+use crate::refusal::Refusal;
 
 /// The number of bytes of a label.
 pub const LABEL_BYTES: usize = 16;
@@ -16,27 +15,17 @@ pub struct Label {
     pub after: bool,
 }
 
-fn not_a_label() -> Refusal
-    ensures { result ≡ not_a_label }
-{
-    Refusal {
-        number: 15,
-        layer: Layer::Layout,
-        place: 0,
-    }
-}
-
 impl Label {
     /// Reads a label of 16 bytes.
     pub fn read(bytes: &[u8]) -> Result<Label, Refusal>
         ensures { Reads bytes.now result }
     {
         if bytes.len() != LABEL_BYTES {
-            return Err(not_a_label());
+            return Err(Refusal::NotALabel);
         }
         let flag = number_at(bytes, 7);
         if number_at(bytes, 0) != 1 || flag > 1 {
-            return Err(not_a_label());
+            return Err(Refusal::NotALabel);
         }
         let plan = Plan::new(
             number_at(bytes, 1),
@@ -58,7 +47,7 @@ impl Label {
         ensures back { ReadsBack self.now }
     {
         if bytes.len() != LABEL_BYTES {
-            return Err(not_a_label());
+            return Err(Refusal::NotALabel);
         }
         self.put(bytes);
         Ok(())

@@ -5,21 +5,11 @@ ghost use Rattle.layout.specs.Places.{CellOf, HomeOf, ChunkIn, ChunkPlace, Parit
 ghost use Rattle.layout.specs.Placement.{placement};
 ghost use Rattle.layout.specs.Placing.{chunks_of, stripes_of, rows_of};
 ghost use Rattle.layout.specs.Promises.{outside_home};
-ghost use Rattle.layout.specs.Refusals.{Judged, out_of_range};
+ghost use Rattle.layout.specs.Refusals.{Judged};
 
 use crate::numbers;
 use crate::plan::{Cell, Place, Plan};
-use crate::refusal::{Layer, Refusal};
-
-fn out_of_range(place: u16) -> Refusal
-    ensures { result ≡ out_of_range place }
-{
-    Refusal {
-        number: 2,
-        layer: Layer::Layout,
-        place,
-    }
-}
+use crate::refusal::Refusal;
 
 impl Plan {
     /// Checks the numbers of a rebuild, in order, and makes the plan, or says which rule they break first.
@@ -27,34 +17,26 @@ impl Plan {
         ensures { Judged order d r d2 r2 len result }
     {
         if d < 2 || d > 14 {
-            return Err(out_of_range(1));
+            return Err(Refusal::OutOfRange(1));
         }
         if r < 1 || r > 4 {
-            return Err(out_of_range(2));
+            return Err(Refusal::OutOfRange(2));
         }
         if d2 < 2 || d2 > 14 {
-            return Err(out_of_range(3));
+            return Err(Refusal::OutOfRange(3));
         }
         if r2 < 1 || r2 > 4 {
-            return Err(out_of_range(4));
+            return Err(Refusal::OutOfRange(4));
         }
         if len < 1 || len > 4096 {
-            return Err(out_of_range(5));
+            return Err(Refusal::OutOfRange(5));
         }
         let b = numbers::spread(d, d2);
         if r < b {
-            return Err(Refusal {
-                number: 3,
-                layer: Layer::Layout,
-                place: 0,
-            });
+            return Err(Refusal::TooFewParities);
         }
         if order < 4 + b * d2 {
-            return Err(Refusal {
-                number: 4,
-                layer: Layer::Layout,
-                place: 0,
-            });
+            return Err(Refusal::TooFewCodes);
         }
         Ok(Plan {
             order,

@@ -6,7 +6,8 @@ use Rattle.std.proofs.lemmas.Bool.Decides.{nat_tests}
 use Rattle.rack.specs.Meaning.{Meaning, holds, takes, stored, flagged, pulls, fits, Pulls, Fits}
 use Rattle.rack.specs.declared.shape.Shape.{Shape}
 use Rattle.rack.specs.Shaped.{marked}
-use Rattle.rack.specs.Laid.{low, inside, laid, fair, Fair, refusal, unless}
+use Rattle.layout.specs.declared.refusal.Refusal.TheVariants.{UnfitMemory}
+use Rattle.rack.specs.Laid.{low, inside, laid, fair, Fair, unless}
 
 -- two digits are known by their number
 pub same_high : (q q' m r r' : ℕ) → r < m → r' < m → q * m + r ≡ q' * m + r' → q ≡ q'
@@ -24,10 +25,10 @@ unless_none true e = refl
 unless_none false e = let z : ◌≡◌ {A = ℕ} 0 1 = cc in absurd (omega arith)
 
 pub unless_true : (b : Bool) → b ≡ true → unless b ≡ None
-unless_true b e = cond-true b None (Some refusal) e
+unless_true b e = cond-true b None (Some UnfitMemory) e
 
-pub unless_false : (b : Bool) → b ≡ false → unless b ≡ Some refusal
-unless_false b e = cond-false b None (Some refusal) e
+pub unless_false : (b : Bool) → b ≡ false → unless b ≡ Some UnfitMemory
+unless_false b e = cond-false b None (Some UnfitMemory) e
 
 -- the test on the four numbers, and the facts
 pub fair_parts : (order modules slots span : ℕ) (on : List Bool) → length on ≡ 32 → fair order modules slots span ≡ true → Fair order modules slots span on

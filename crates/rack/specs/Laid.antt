@@ -3,7 +3,7 @@ use Rattle.std.specs.Prelude.{◌≡◌, ℕ, ◌<◌, ◌≤◌, Bool, true, fa
 use Rattle.std.proofs.Common.{arith}
 use Rattle.std.proofs.lemmas.Bool.{ltb-true, le-ltb, and_left, cond_both}
 use Rattle.layout.specs.declared.refusal.Refusal.{Refusal}
-use Rattle.layout.specs.declared.refusal.Layer.TheVariants.{Rack}
+use Rattle.layout.specs.declared.refusal.Refusal.TheVariants.{UnfitMemory}
 use Rattle.rack.specs.Meaning.{Meaning, Bounded}
 
 -- a number of the order or more means 0
@@ -43,13 +43,9 @@ pub record Fair (order modules slots span : ℕ) (on : List Bool) : Type 0 where
   pub span_low : 1 ≤ span
   pub span_high : span ≤ 4096
 
--- how memory is refused
-abbrev pub refusal : Refusal
-refusal = record { number = 1; layer = Rack; place = 0 }
-
 -- the refusal, unless the test holds
 abbrev pub unless : Bool → Option Refusal
-unless b = cond b None (Some refusal)
+unless b = cond b None (Some UnfitMemory)
 
 low_lt : (order v : ℕ) → 2 ≤ order → low order v < order
 low_lt order v h = cond_both (nat_lt v order) v 0 (λ x. x < order) (λ e. ltb-true v order e) (λ e. omega arith)

@@ -1,15 +1,6 @@
 // What both racks do with their cells and numbers.
 ghost use Rattle.std.specs.Prelude.{◌≡◌, ℕ, ◌+◌, ◌*◌, ◌<◌, ◌≤◌, length, nat_lt, slice_index, slice_set};
 
-use layout::refusal::{Layer, Refusal};
-
-/// How memory is refused.
-pub(crate) const REFUSED: Refusal = Refusal {
-    number: 1,
-    layer: Layer::Rack,
-    place: 0,
-};
-
 /// Where a symbol lies in a row of slots.
 pub(crate) fn place(slots: u16, span: u16, module: u16, slot: u16, offset: u16) -> usize
     ensures { result ≡ («module» * slots + slot) * span + offset }

@@ -3,7 +3,7 @@ ghost use Rattle.std.specs.Prelude.{◌≡◌, true, replicate, if◌then◌else
 ghost use Rattle.rack.specs.Flat.{at, flat, flat_refusal, Blanked, FlatSound, flat_bounded};
 ghost use Rattle.rack.specs.Meaning.{Puts, Pulls, Fits};
 
-use crate::cells::{REFUSED, clear, place, start, store};
+use crate::cells::{clear, place, start, store};
 use crate::rack::Rack;
 use crate::shape::Shape;
 use layout::refusal::Refusal;
@@ -29,10 +29,10 @@ impl<'a> FlatRack<'a> {
         ensures { MatchResult result (λ _. flat_refusal cells.now order modules slots length ≡ None) (λ e. flat_refusal cells.now order modules slots length ≡ Some e) }
     {
         if !Shape::in_bounds(order, modules, slots, length) {
-            return Err(REFUSED);
+            return Err(Refusal::UnfitMemory);
         }
         if cells.len() < modules as usize * slots as usize * length as usize {
-            return Err(REFUSED);
+            return Err(Refusal::UnfitMemory);
         }
         Ok(())
     }

@@ -3,7 +3,7 @@ ghost use Rattle.std.specs.Prelude.{◌≡◌, true, false, replicate, Some, Non
 ghost use Rattle.rack.specs.Meaning.{Puts, Pulls, Fits};
 ghost use Rattle.rack.specs.Turning.{turned, turn_refusal, TurnSound, Turns, PagesBlanked, turn_bounded};
 
-use crate::cells::{REFUSED, clear};
+use crate::cells::{clear};
 use crate::pages::{all_once, exchange, page_start, turn};
 use crate::rack::Rack;
 use crate::shape::Shape;
@@ -33,17 +33,17 @@ impl<'a> TurningRack<'a> {
         ensures { MatchResult result (λ _. turn_refusal cells.now map.now order modules slots length ≡ None) (λ e. turn_refusal cells.now map.now order modules slots length ≡ Some e) }
     {
         if !Shape::in_bounds(order, modules, slots, length) {
-            return Err(REFUSED);
+            return Err(Refusal::UnfitMemory);
         }
         let pages = modules as usize * slots as usize + 1;
         if cells.len() < pages * length as usize {
-            return Err(REFUSED);
+            return Err(Refusal::UnfitMemory);
         }
         if map.len() < pages {
-            return Err(REFUSED);
+            return Err(Refusal::UnfitMemory);
         }
         if !all_once(map, pages) {
-            return Err(REFUSED);
+            return Err(Refusal::UnfitMemory);
         }
         Ok(())
     }

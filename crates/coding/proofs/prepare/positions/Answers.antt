@@ -1,10 +1,10 @@
-use Rattle.std.proofs.Common.{◌<◌, ◌∙◌, arith}
+use Rattle.std.proofs.Common.{◌<◌, length, ◌∙◌, arith}
 use Rattle.coding.proofs.Positions.{begun, noted, passed, full, positions, found_le, found_as}
 use Rattle.coding.proofs.prepare.positions.Goals as goal
 use Rattle.coding.proofs.prepare.positions.Goals.{then-xs-e, then-n-lt4, else-n-lt4, else-xs-e}
 
 pub loop-e-init : goal.loop-e-init
-loop-e-init c = begun c.args.xs.now
+loop-e-init c = begun c.args.xs.now c.requires.some
 
 pub overflow_add-n : goal.overflow_add-n
 overflow_add-n c = omega (arith, found_le c.args.xs.now c.loop-e.e c.loop-e.list c.loop-e.n c.loop-e.invariant)
@@ -16,7 +16,7 @@ loop-e-preserved c =
     let list = c.loop-e.list in
     let n = c.loop-e.n in
     let inv = c.loop-e.invariant in
-    let le : e < 14 = omega arith in
+    let le : e < length xs = omega arith in
     elim c.if-xs-e.branch [
       | then-xs-e w ↦ elim w.if-n-lt4.branch [
         | then-n-lt4 w' ↦ found_as xs _ _ _ _ _ (w.list-is ∙ w'.list-is) w.n-is (noted xs e list n inv w.if-xs-e.true w'.if-n-lt4.true le)

@@ -8,4 +8,4 @@ loop-j-preserved c =
     let m = c.args.self.now.missing in
     let u = c.args.unknowns in
     let j = c.loop-j.j in
-    ap (λ xs. set xs (get_or m j 0) (get_or u j 0)) c.loop-j.invariant ∙ sym (ap (λ (i : ℕ). scattered a m u i) (add-one j))
+    ap (λ xs. set xs (get_or m j 0) (get_or u j 0)) c.loop-j.invariant ∙ sym (ap (λ (i : ℕ). scattered a m (λ j. get_or u j 0) i) (add-one j))

@@ -7,5 +7,4 @@ use Rattle.coding.proofs.repair.Repair.sides.Given as goal
 abbrev pub invariant-loop-j : goal.invariant-loop-j
 invariant-loop-j g l =
     let A = g.F.Field.arithmetic l.field in
-    g.R.Rack.valid l.rack →
-    Filled 4 (λ j x. x ≡ minus A ((g.R.Rack.meaning l.rack).symbol (get_or l.self.sources j 0) l.self.group.slot l.offset) (total A 14 (λ e. A.mul (at l.self.coefficients j e) (get_or l.known e 0)))) (λ x. x ≡ 0) 0 l.j l.sides
+    Filled 4 (λ j x. x ≡ minus A (get_or l.symbols j 0) (total A 14 (λ e. A.mul (at l.self.coefficients j e) (get_or l.known e 0)))) (λ x. x ≡ 0) 0 l.j l.sides
