@@ -1,5 +1,5 @@
 -- The solutions for the unit sides are the columns of an inverse. Assumes nothing.
-use Rattle.std.proofs.Common.{◌≡◌, ℕ, zero, suc, ◌<◌, ◌≤◌, ◌≢◌, List, [], length, get_or, sym, refl, ap, ◌∙◌, subst, inr, ⊎_elim, arith, get_or-set_other, get_or-set_same}
+use Rattle.std.proofs.Common.{◌≡◌, ℕ, zero, suc, ◌<◌, ◌≤◌, ◌≢◌, List, [], ◌∷◌, get_or, sym, refl, ap, ◌∙◌, subst, inr, ⊎_elim, arith, get_or-set_other, get_or-set_same}
 use mathlib.Core.Logic.{by_cases}
 use native.Mathlib.Fin
 use native.Mathlib.Decide.{ℕ_discrete, dec_lt}
@@ -10,10 +10,12 @@ use Rattle.field.specs.Sums.{total}
 use Rattle.field.specs.Systems.{at, Codes, Solves, Inverse, cauchy, Posed}
 use Rattle.field.specs.Elimination.{unit, Units, Transposed}
 use Rattle.field.proofs.Codes.{Code, field, code, code_is, code_zero, zero_below, zero-mul, total_rest, dot_is, sums_same, up, down}
-use Rattle.field.proofs.Loops.{zeros}
 use Rattle.field.proofs.Steps.{xpoint, ypoint, points, cauchy_is}
 use Rattle.field.proofs.Linear as linear
 use Rattle.field.proofs.Unique as unique
+
+abbrev zeros : List ℕ
+zeros = 0 ∷ 0 ∷ 0 ∷ 0 ∷ []
 
 unit_one : (k : ℕ) → k < 4 → get_or (unit k) k 0 ≡ 1
 unit_one k h = get_or-set_same zeros k 1 0 h
@@ -41,7 +43,7 @@ module _ (A : Arithmetic) (L : Lawful A) (n : ℕ) (ks xs : List ℕ) (posed : P
   W k j = K (at s k j)
 
   solved : (k : ℕ) → k < n → (i : ℕ) → i < n → linear.dot (field A L) n (C i) (W k) ≡ K (get_or (unit k) i 0)
-  solved k hk = let few = posed.few in up A L n M (unit k) (get_or s k []) (λ i hi. unit_codes A L k (omega arith) i (omega arith)) (units.rows k hk).solves
+  solved k hk = let few = posed.few in up A L n M (unit k) (get_or s k []) (λ i hi. unit_codes A L k (omega arith) i (omega arith)) ((units k (omega arith)).is hk).solves
 
   field_units : unique.Units (field A L) n C W
   field_units =
@@ -84,16 +86,16 @@ module _ (A : Arithmetic) (L : Lawful A) (n : ℕ) (ks xs : List ℕ) (posed : P
         sym (code_is A L (get_or u j 0) (hu j hj)) ∙ ap (λ (q : Code A L). q.0) same ∙ mixed_is j
 
   -- the columns of w are these solutions
-  module _ (w : List (List ℕ)) (high : length w ≡ 4) (columns : Transposed s w) where
+  module _ (w : List (List ℕ)) (columns : Transposed s w) where
     turned : (j : ℕ) (b : List ℕ) → j < n → total A n (λ i. A.mul (at w j i) (get_or b i 0)) ≡ total A n (λ i. A.mul (at s i j) (get_or b i 0))
-    turned j b hj = let few = posed.few in sums_same A n (λ i. at s i j) (λ i. at w j i) (λ i. get_or b i 0) (λ i hi. (columns j (omega arith)).is i (omega arith))
+    turned j b hj = let few = posed.few in sums_same A n (λ i. at s i j) (λ i. at w j i) (λ i. get_or b i 0) (λ i hi. (columns.columns j (omega arith)).is i (omega arith))
 
     -- past the end there is zero
     past : (j i : ℕ) → (j < 4 → i < 4 → ⊥) → at w j i ≡ 0
     past j i out =
         by_cases (dec_lt j 4)
-        (λ (hj : j < 4). get_or_past (get_or w j []) i 0 (let l : i < 4 → ⊥ = out hj in omega (arith, (columns j hj).size)))
-        (λ (nj : j < 4 → ⊥). ap (λ (r : List ℕ). get_or r i 0) (get_or_past w j [] (omega (arith, high))))
+        (λ (hj : j < 4). get_or_past (get_or w j []) i 0 (let l : i < 4 → ⊥ = out hj in omega (arith, (columns.columns j hj).size)))
+        (λ (nj : j < 4 → ⊥). ap (λ (r : List ℕ). get_or r i 0) (get_or_past w j [] (omega (arith, columns.size))))
 
     -- what holds of zero and of the solutions' entries holds of all entries
     each : (P : ℕ → Type 0) (j i : ℕ) → P 0 → (j < 4 → i < 4 → P (at s i j)) → P (at w j i)
@@ -101,29 +103,29 @@ module _ (A : Arithmetic) (L : Lawful A) (n : ℕ) (ks xs : List ℕ) (posed : P
         by_cases (dec_lt j 4)
         (λ (hj : j < 4).
         by_cases (dec_lt i 4)
-        (λ (hi : i < 4). subst P (sym ((columns j hj).is i hi)) (some hj hi))
+        (λ (hi : i < 4). subst P (sym ((columns.columns j hj).is i hi)) (some hj hi))
         (λ (ni : i < 4 → ⊥). subst P (sym (past j i (λ _ hi. ni hi))) none))
         (λ (nj : j < 4 → ⊥). subst P (sym (past j i (λ hj _. nj hj))) none)
 
     pub inverted : Inverse A n ks xs w
     inverted =
         record {
-          size = high;
-          wide = λ j h. (columns j h).size;
+          size = columns.size;
+          wide = λ j h. (columns.columns j h).size;
           codes = λ j i.
               each (λ x. x < A.order) j i (zero_below A L)
               (λ hj hi.
               by_cases (dec_lt i n)
-              (λ (l : i < n). (units.rows i l).codes j hj)
-              (λ (out : i < n → ⊥). subst (λ (x : ℕ). x < A.order) (sym (units.rest i j (omega arith) hi hj)) (zero_below A L)));
+              (λ (l : i < n). ((units i hi).is l).codes j hj)
+              (λ (out : i < n → ⊥). subst (λ (x : ℕ). x < A.order) (sym ((units i hi).rest j (omega arith))) (zero_below A L)));
           solves = λ b u hb hu e. gives b u hb hu (λ j hj. e j hj ∙ turned j b hj);
           only = λ b u hb hu e j hj. takes b u hb hu e j hj ∙ sym (turned j b hj);
           rest = λ j i out.
               each (λ x. x ≡ 0) j i refl
               (λ hj hi.
               by_cases (dec_lt i n)
-              (λ (l : i < n). (units.rows i l).rest j (⊎_elim (λ (h : n ≤ j). h) (λ (h : n ≤ i). omega arith) out))
-              (λ (past-n : i < n → ⊥). units.rest i j (omega arith) hi hj));
+              (λ (l : i < n). ((units i hi).is l).rest j (⊎_elim (λ (h : n ≤ j). h) (λ (h : n ≤ i). omega arith) out))
+              (λ (past-n : i < n → ⊥). (units i hi).rest j (omega arith)));
         }
 
 -- for callers: the zeros past n add nothing, so that a sum over all four places gives the unknown

@@ -3,7 +3,6 @@ pub mod Codes
 pub mod Ring
 pub mod Linear
 pub mod Unique
-pub mod Loops
 pub mod Tests
 pub mod Parts
 pub mod Steps

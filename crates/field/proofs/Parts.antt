@@ -1,5 +1,5 @@
 -- What `eliminate` has written. Assumes nothing.
-use Rattle.std.proofs.Common.{◌≡◌, ℕ, ◌<◌, ◌≢◌, List, [], length, get_or, set, sym, ap, ◌∙◌, arith, get_or-set_other, get_or-set_same}
+use Rattle.std.proofs.Common.{◌≡◌, ℕ, ◌<◌, List, [], length, get_or, set, sym, ap, ◌∙◌, get_or-set_other, get_or-set_same}
 use Rattle.field.specs.Arithmetic.{Arithmetic}
 use Rattle.field.specs.Sums.{minus}
 use Rattle.field.specs.Systems.{at}

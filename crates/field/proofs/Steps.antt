@@ -108,7 +108,7 @@ module _ (A : Arithmetic) (L : Lawful A) where
       pub begin : (b : List ℕ) (a : List (List ℕ)) (s : List ℕ) → Coefficients A n ks xs a → Codes A n b → First n b s → length s ≡ 4 → Progress b 0 a s
       begin b a s coefficients codes first size =
           let few = posed.few in
-          let is : (i j : ℕ) → i < n → j < n → at a i j ≡ cauchy A ks xs i j = λ i j hi hj. (coefficients.rows i hi).is j hj in
+          let is : (i j : ℕ) → i < n → j < n → at a i j ≡ cauchy A ks xs i j = λ i j hi hj. (coefficients i (omega arith) j (omega arith)).is hi hj in
           record {
             size = size;
             grid = λ i j hi hj.
@@ -116,13 +116,13 @@ module _ (A : Arithmetic) (L : Lawful A) where
                 (λ (li : i < n).
                 by_cases (dec_lt j n)
                 (λ (lj : j < n). subst (λ (x : ℕ). x < A.order) (sym (is i j li lj)) (L.inv-below _))
-                (λ (nj : j < n → ⊥). subst (λ (x : ℕ). x < A.order) (sym ((coefficients.rows i li).rest j (omega arith) hj)) (zero_below A L)))
-                (λ (ni : i < n → ⊥). subst (λ (x : ℕ). x < A.order) (sym (coefficients.rest i j (omega arith) hi hj)) (zero_below A L));
+                (λ (nj : j < n → ⊥). subst (λ (x : ℕ). x < A.order) (sym ((coefficients i hi j hj).column_rest (omega arith))) (zero_below A L)))
+                (λ (ni : i < n → ⊥). subst (λ (x : ℕ). x < A.order) (sym ((coefficients i hi j hj).row_rest (omega arith))) (zero_below A L));
             codes = λ i hi.
                 by_cases (dec_lt i n)
                 (λ (li : i < n). subst (λ (x : ℕ). x < A.order) (sym (first.is i li)) (codes i li))
                 (λ (ni : i < n → ⊥). subst (λ (x : ℕ). x < A.order) (sym (first.rest i (omega arith) hi)) (zero_below A L));
-            rows_rest = coefficients.rest;
+            rows_rest = λ i j h hi hj. (coefficients i hi j hj).row_rest h;
             sides_rest = first.rest;
             shape = linear.start (field A L) n xpoint ypoint (λ i j. K (at a i j)) (λ i j hi hj. ap K (is i j hi hj) ∙ cauchy_is i j);
             keeps = λ u e i hi. sums_same A n (cauchy A ks xs i) (at a i) (λ j. get_or u j 0) (λ j hj. is i j hi hj) ∙ e i hi ∙ sym (first.is i hi);

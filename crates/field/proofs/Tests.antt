@@ -1,31 +1,39 @@
 -- What the tests of a system's parities and chunks tell. Assumes nothing.
-use Rattle.std.proofs.Common.{◌≡◌, ℕ, ◌+◌, ◌-◌, ◌<◌, ◌≤◌, Bool, true, false, ◌≢◌, List, length, get_or, take, sym, ◌∙◌, arith, length-take, get_or-take}
+use Rattle.std.proofs.Common.{◌≡◌, ℕ, ◌-◌, ◌<◌, ◌≤◌, Bool, true, false, List, length, get_or, take, Decides, MatchBool, refl, sym, ap, subst, ◌∙◌, zero-add, arith, length-take, get_or-take}
 use mathlib.Core.Logic.{by_cases}
-use native.Mathlib.Decide.{ℕ_discrete}
+use native.Mathlib.Decide.{dec_lt}
+use Rattle.std.specs.List.{AllWithin, HoldsAt, enumerate_from}
+use Rattle.std.proofs.lemmas.Bool.{false≢true}
+use Rattle.std.proofs.lemmas.List.FromFn.{length-enumerate_from, get_or-enumerate_from}
 use Rattle.field.specs.Arithmetic.{Arithmetic}
 use Rattle.field.specs.Systems.{Distinct, Posed}
 use Rattle.field.specs.Elimination.{Once}
 
-pub never : (r : Bool) → r ≡ false → r ≡ true → ⊥
-never r f t = let z : ◌≡◌ {A = ℕ} 0 1 = cc in omega arith
+-- whether a number, given with its place in xs, stands there before that place
+abbrev pub Fresh : List ℕ → ℕ × ℕ → Type 0
+Fresh xs p = (k : ℕ) → k < length (take p.0 xs) → get_or (take p.0 xs) k 0 ≡ p.1 → ⊥
 
--- a number that stands before i too
-pub not_distinct : (xs : List ℕ) (i k : ℕ) → i < length xs → k < length (take i xs) → get_or (take i xs) k 0 ≡ get_or xs i 0 → Distinct (length xs) xs → ⊥
-not_distinct xs i k hi hk e d =
-    let l : k < i = omega (arith, length-take i xs) in
-    d k i (omega arith) hi (omega arith) (sym (get_or-take i xs k 0 l) ∙ e)
+abbrev pub Stale : List ℕ → ℕ × ℕ → Type 0
+Stale xs p = (k : ℕ) × (k < length (take p.0 xs)) × (get_or (take p.0 xs) k 0 ≡ p.1)
 
--- a number that does not stand before i
-pub distinct_more : (xs : List ℕ) (i : ℕ) → i < length xs → Distinct i xs → ((k : ℕ) → k < length (take i xs) → get_or (take i xs) k 0 ≡ get_or xs i 0 → ⊥) → Distinct (i + 1) xs
-distinct_more xs i hi d new =
-    let before : (k : ℕ) → k < i → get_or xs k 0 ≡ get_or xs i 0 → ⊥ = λ k l e. new k (omega (arith, length-take i xs)) (get_or-take i xs k 0 l ∙ e) in
-    λ a b ha hb ne e.
-    by_cases (ℕ_discrete a i)
-    (λ (ai : a ≡ i). before b (omega arith) (sym e ∙ cc))
-    (λ (an : a ≢ i).
-    by_cases (ℕ_discrete b i)
-    (λ (bi : b ≡ i). before a (omega arith) (e ∙ cc))
-    (λ (bn : b ≢ i). d a b (omega arith) (omega arith) ne e))
+-- the number at i, with i
+placed : (xs : List ℕ) (i : ℕ) → i < length xs → get_or (enumerate_from 0 xs) i (0, 0) ≡ (i, get_or xs i 0)
+placed xs i h = get_or-enumerate_from 0 xs i (0, 0) h ∙ ap (λ (n : ℕ). (n, get_or xs i 0)) (zero-add i)
+
+-- a test of each number with those before it
+pub distinct_tested : (r : Bool) (xs : List ℕ) →
+    MatchBool r (AllWithin (Fresh xs) (enumerate_from 0 xs) 0 (length (enumerate_from 0 xs)))
+    ((k : ℕ) × (k < length (enumerate_from 0 xs)) × HoldsAt (Stale xs) (enumerate_from 0 xs) k) → Decides r (Distinct (length xs) xs)
+distinct_tested true xs fresh =
+    let before : (i j : ℕ) → i < j → j < length xs → get_or xs i 0 ≡ get_or xs j 0 → ⊥ =
+    λ i j l h e.
+    subst (Fresh xs) (placed xs j h) (fresh j (0, 0) (omega arith) (omega (arith, length-enumerate_from 0 xs))) i (omega (arith, length-take j xs)) (get_or-take j xs i 0 l ∙ e) in
+    (λ _ i j hi hj ne e. by_cases (dec_lt i j) (λ (l : i < j). before i j l hj e) (λ (nl : i < j → ⊥). before j i (omega arith) hi (sym e)), λ _. refl)
+distinct_tested false xs (i, h, stale) =
+    let within : i < length xs = omega (arith, length-enumerate_from 0 xs) in
+    let s = subst (Stale xs) (placed xs i within) (stale (0, 0)) in
+    let l : s.0 < i = omega (arith, s.1, length-take i xs) in
+    (λ e. absurd (false≢true e), λ d. absurd (d s.0 i (omega arith) within (omega arith) (sym (get_or-take i xs s.0 0 l) ∙ s.2)))
 
 module _ (n limit : ℕ) (xs : List ℕ) (within : n ≤ length xs) where
   long : length (take n xs) ≡ n

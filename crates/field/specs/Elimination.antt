@@ -2,8 +2,8 @@
 -- what Systems says. Assumes nothing.
 use Rattle.std.specs.Prelude.{◌≡◌, ℕ, ◌<◌, ◌≤◌, ◌≢◌, List, [], ◌∷◌, length, get_or, slice_index, slice_index_or, slice_set}
 use Rattle.field.specs.Arithmetic.{Arithmetic}
-use Rattle.field.specs.Sums.{minus, coefficient}
-use Rattle.field.specs.Systems.{at, Distinct, Solves, Solution}
+use Rattle.field.specs.Sums.{minus}
+use Rattle.field.specs.Systems.{at, cauchy, Distinct, Solves, Solution}
 
 -- the first n are below the limit, and no two of them are equal
 pub record Once (n limit : ℕ) (xs : List ℕ) : Type 0 where
@@ -19,15 +19,19 @@ pub record First (n : ℕ) (b r : List ℕ) : Type 0 where
   pub is : (i : ℕ) → i < n → slice_index r i ≡ slice_index b i
   pub rest : (i : ℕ) → n ≤ i → i < 4 → slice_index r i ≡ 0
 
--- the coefficients of the first n of the chunks xs in parity k, and zeros after them
-pub record Weights (A : Arithmetic) (n k : ℕ) (xs r : List ℕ) : Type 0 where
-  pub is : (j : ℕ) → j < n → slice_index r j ≡ coefficient A k (slice_index xs j)
-  pub rest : (j : ℕ) → n ≤ j → j < 4 → slice_index r j ≡ 0
+-- r is the coefficient of chunk j in parity i, and zero past the first n of them
+pub record CoefficientAt (A : Arithmetic) (n : ℕ) (ks xs : List ℕ) (i j r : ℕ) : Type 0 where
+  pub is : i < n → j < n → r ≡ cauchy A ks xs i j
+  pub row_rest : n ≤ i → r ≡ 0
+  pub column_rest : n ≤ j → r ≡ 0
+
+-- r has those in parity i
+abbrev pub CoefficientRow : Arithmetic → ℕ → List ℕ → List ℕ → ℕ → List ℕ → Type 0
+CoefficientRow A n ks xs i r = (j : ℕ) → j < 4 → CoefficientAt A n ks xs i j (slice_index r j)
 
 -- the coefficients of a system of n equations, and zeros around them
-pub record Coefficients (A : Arithmetic) (n : ℕ) (ks xs : List ℕ) (a : List (List ℕ)) : Type 0 where
-  pub rows : (i : ℕ) → i < n → Weights A n (slice_index ks i) xs (slice_index_or a i [])
-  pub rest : (i j : ℕ) → n ≤ i → i < 4 → j < 4 → at a i j ≡ 0
+abbrev pub Coefficients : Arithmetic → ℕ → List ℕ → List ℕ → List (List ℕ) → Type 0
+Coefficients A n ks xs a = (i : ℕ) → i < 4 → CoefficientRow A n ks xs i (slice_index_or a i [])
 
 -- a row times a number
 abbrev pub Scaled : Arithmetic → ℕ → List ℕ → List ℕ → Type 0
@@ -53,10 +57,14 @@ pub record Same (A : Arithmetic) (n : ℕ) (a : List (List ℕ)) (b : List ℕ) 
 abbrev pub unit : ℕ → List ℕ
 unit k = slice_set (0 ∷ 0 ∷ 0 ∷ 0 ∷ []) k 1
 
--- row k is the solution for the sides that are one at k and else zero; what is past n is zero
-pub record Units (A : Arithmetic) (n : ℕ) (ks xs : List ℕ) (s : List (List ℕ)) : Type 0 where
-  pub rows : (k : ℕ) → k < n → Solution A n ks xs (unit k) (slice_index_or s k [])
-  pub rest : (k j : ℕ) → n ≤ k → k < 4 → j < 4 → at s k j ≡ 0
+-- u is the solution for the sides that are one at k and zero elsewhere; zeros past the first n
+pub record UnitSolution (A : Arithmetic) (n : ℕ) (ks xs : List ℕ) (k : ℕ) (u : List ℕ) : Type 0 where
+  pub is : k < n → Solution A n ks xs (unit k) u
+  pub rest : (j : ℕ) → n ≤ k → slice_index u j ≡ 0
+
+-- row k is that solution
+abbrev pub Units : Arithmetic → ℕ → List ℕ → List ℕ → List (List ℕ) → Type 0
+Units A n ks xs s = (k : ℕ) → k < 4 → UnitSolution A n ks xs k (slice_index_or s k [])
 
 -- column j of the matrix m
 pub record Column (m : List (List ℕ)) (j : ℕ) (r : List ℕ) : Type 0 where
@@ -64,5 +72,6 @@ pub record Column (m : List (List ℕ)) (j : ℕ) (r : List ℕ) : Type 0 where
   pub is : (i : ℕ) → i < 4 → slice_index r i ≡ at m i j
 
 -- the rows of w are the columns of m
-abbrev pub Transposed : List (List ℕ) → List (List ℕ) → Type 0
-Transposed m w = (j : ℕ) → j < 4 → Column m j (slice_index_or w j [])
+pub record Transposed (m w : List (List ℕ)) : Type 0 where
+  pub size : length w ≡ 4
+  pub columns : (j : ℕ) → j < 4 → Column m j (slice_index_or w j [])

@@ -7,7 +7,7 @@ ghost use Rattle.field.specs.BinaryLaws.{byte_degree, byte_lawful, nibble_degree
 use crate::squares::times_powers;
 use crate::{Field, read};
 
-/// The polynomial that the products of a field are reduced by.
+/// A polynomial that no others multiply to, so that the polynomials of lower degree, reduced by it, are a field.
 pub trait Modulus {
     ghost DEGREE: { ℕ };
 
@@ -113,11 +113,7 @@ impl<M: Modulus> Field for M {
 
     /// The power 2 ^ w - 2 of `a`, where w is the degree, which is the product of its powers 2, 4, 8 and so on, w - 1 of them.
     fn inv(&self, a: u16) -> u16 {
-        times_powers(
-            |x, y| multiply::<M>(x, y),
-            M::DEGREE - 1,
-            read(self.order(), a),
-            1,
-        )
+        let a = read(self.order(), a);
+        times_powers(|x, y| multiply::<M>(x, y), M::DEGREE - 1, a, 1)
     }
 }

@@ -37,10 +37,12 @@ pub(crate) fn eliminate<F: Field>(
     let by = field.inv(a[column][column]);
     let top = scaled(field, a[column], by);
     let side = field.mul(by, b[column]);
-    let mut rows = a.map(|row: [u16; 4]| -> [u16; 4]
-        requires { column < 4 }
-        ensures { Reduced (F.arithmetic field.entry.now) (slice_index row column) row top result }
-    { reduced(field, row, top, row[column]) });
+    let mut rows = a.map(
+        |row: [u16; 4]| -> [u16; 4]
+            requires { column < 4 }
+            ensures { Reduced (F.arithmetic field.entry.now) (slice_index row column) row top result }
+        { reduced(field, row, top, row[column]) },
+    );
     rows[column] = top;
     let mut sides = array::from_fn(|i| field.sub(b[i], field.mul(a[i][column], side)));
     sides[column] = side;

@@ -9,24 +9,14 @@ use crate::Field;
 fn all_below(xs: &[u8], limit: u16) -> bool
     ensures { Decides result ((i : ℕ) → i < length xs.now → slice_index xs.now i < limit) }
 {
-    for x in xs {
-        if u16::from(*x) >= limit {
-            return false;
-        }
-    }
-    true
+    xs.iter().all(|x| u16::from(*x) < limit)
 }
 
 /// Whether no two of the numbers are equal.
 fn distinct(xs: &[u8]) -> bool
     ensures { Decides result (Distinct (length xs.now) xs.now) }
 {
-    for (i, x) in xs.iter().enumerate() {
-        if xs[..i].contains(x) {
-            return false;
-        }
-    }
-    true
+    xs.iter().enumerate().all(|(i, x)| !xs[..i].contains(x))
 }
 
 /// Whether the numbers are below the limit, and no two of them equal.
@@ -42,16 +32,11 @@ pub(crate) fn all_codes<F: Field>(field: &F, n: usize, sides: [u16; 4]) -> bool
     ensures { Decides result (Codes (F.arithmetic field.now) n sides) }
 {
     let order = field.order();
-    for i in 0..n {
-        if sides[i] >= order {
-            return false;
-        }
-    }
-    true
+    sides[..n].iter().all(|side| *side < order)
 }
 
 /// Whether the first `n` of the parities `ks` and of the chunks `xs` give a system.
-pub(crate) fn posed<F: Field>(field: &F, n: usize, ks: [u8; 4], xs: [u8; 4]) -> bool
+pub(crate) fn is_posed<F: Field>(field: &F, n: usize, ks: [u8; 4], xs: [u8; 4]) -> bool
     ensures { Decides result (Posed (F.arithmetic field.now) n ks xs) }
 {
     if n > 4 {

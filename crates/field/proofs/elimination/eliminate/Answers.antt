@@ -13,7 +13,7 @@ returns g c =
     let high : k < length c.map-rows.result = omega arith in
     let long : k < length c.from_fn-sides.result = omega arith in
     let rows : (i : ℕ) → i < 4 → Reduced A (at c.args.a i k) (get_or c.args.a i []) c.scaled-top.result (get_or c.map-rows.result i []) = search rules in
-    let sides : (i : ℕ) → i < 4 → get_or c.from_fn-sides.result i 0 ≡ minus A (get_or c.args.b i 0) (A.mul (at c.args.a i k) c.mul-side.result) = λ i h. let k = c.from_fn-sides.ensures.items.at i 0 h in cc in
+    let sides : (i : ℕ) → i < 4 → get_or c.from_fn-sides.result i 0 ≡ minus A (get_or c.args.b i 0) (A.mul (at c.args.a i k) c.mul-side.result) = λ i h. let k = c.from_fn-sides.ensures.items.at i 0 h in search rules in
     let done =
     stepped A k c.args.a c.args.b c.inv-by.result c.scaled-top.result c.mul-side.result c.map-rows.result c.from_fn-sides.result high long
     c.inv-by.ensures.is c.scaled-top.ensures c.mul-side.ensures.is rows sides in

@@ -1,4 +1,4 @@
-use Rattle.std.proofs.Common.{◌≡◌, ℕ, ◌*◌, sym, ◌∙◌}
+use Rattle.std.proofs.Common.{sym, ◌∙◌}
 use Rattle.field.proofs.Powers.{powers_turn, powers_end}
 use Rattle.field.proofs.squares.times_powers.Goals as goal
 

@@ -1,8 +1,9 @@
-use Rattle.std.proofs.Common.{◌≡◌, ℕ, ◌-◌, ◌≤◌, length, sym, subst, arith}
+use Rattle.std.proofs.Common.{◌≡◌, ℕ, ◌-◌, ◌≤◌, length, sym, subst, ◌∙◌, arith}
+use Rattle.std.proofs.lemmas.Bool.{false≢true}
 use Rattle.field.specs.Systems.{Posed}
 use Rattle.field.specs.Elimination.{Once}
-use Rattle.field.proofs.Tests.{never, once, taken, posed, rows_once, columns_once}
-use Rattle.field.proofs.posed.posed.Goals as goal
+use Rattle.field.proofs.Tests.{once, taken, posed, rows_once, columns_once}
+use Rattle.field.proofs.posed.is_posed.Goals as goal
 
 pub returns-then-distinct_below : goal.returns-then-distinct_below
 returns-then-distinct_below g c =
@@ -26,6 +27,6 @@ pub returns-else-distinct_below : goal.returns-else-distinct_below
 returns-else-distinct_below g c =
     let A = g.F.Field.arithmetic c.args.field.now in
     let ks-long : c.args.n ≤ length c.args.ks = omega arith in (
-      λ e. absurd {A = Posed A c.args.n c.args.ks c.args.xs} (never c.distinct_below.result c.if-distinct_below.false e),
+      λ e. absurd {A = Posed A c.args.n c.args.ks c.args.xs} (false≢true (sym c.if-distinct_below.false ∙ e)),
       λ p. c.distinct_below.ensures.1 (taken c.args.n 4 c.args.ks ks-long (rows_once A c.args.n c.args.ks c.args.xs p)),
     )
