@@ -18,12 +18,18 @@ fn symbol<R: Rack>(rack: &R, module: u16, slot: u16, offset: u16) -> u16
 }
 
 /// The array `start`, with the first `n` of the values in their places.
-fn scatter<T: Copy + Drop, const N: usize>(start: [T; N], places: [u8; 4], values: [T; 4], n: usize) -> [T; N]
+fn scatter<T: Copy + Drop, const N: usize>(
+    start: [T; N],
+    places: [u8; 4],
+    values: [T; 4],
+    n: usize,
+) -> [T; N]
     requires few { n ≤ 4 }
     requires inside { (j : ℕ) → j < 4 → slice_index places j < N }
     ensures { (d : T) → result ≡ scattered start places (λ j. slice_index_or values j d) n }
 {
     let mut all = start;
+    // by index: a `zip` would take the first `n` of both arrays, and be no plainer
     for j in 0..n {
         all[usize::from(places[j])] = values[j];
     }

@@ -1,7 +1,5 @@
 use Rattle.std.proofs.Common.{◌≡◌, ℕ, ◌+◌, ◌<◌, ◌≤◌, length, get_or, refl, arith}
 use Rattle.std.proofs.lemmas.Option.{MatchOption-at_some}
-use Rattle.field.specs.Arithmetic.{Arithmetic}
-use Rattle.coding.specs.declared.group.Group.{Group}
 use Rattle.coding.specs.Schemes.{scheme_of}
 use Rattle.coding.specs.Groups.{groups}
 use Rattle.coding.specs.Pieces.{Grouped}

@@ -8,5 +8,5 @@ pub returns : goal.returns
 returns c =
     let g = c.args.self.now in
     record {
-      is = λ e l. made _ (λ e b. b ≡ (ltb e g.size && flags c.args.out (module_at g e))) _ _ 14 (λ i y q h k. search rules) c.from_fn.ensures.items e false l
+      is = λ e l. made _ (λ e b. b ≡ (ltb e g.size && flags c.args.out (module_at g e))) _ _ 14 (λ i y q h k. search rules) c.from_fn.ensures.items e false l;
     }

@@ -1,4 +1,4 @@
-use Rattle.std.proofs.Common.{◌≡◌, ℕ, ◌<◌, get_or, replicate, Some, None, Option, ◌∙◌, arith, rules}
+use Rattle.std.proofs.Common.{◌≡◌, ℕ, ◌<◌, get_or, replicate, Some, None, ◌∙◌, arith, rules}
 use Rattle.coding.proofs.Solving.{scattered_same}
 use Rattle.coding.proofs.repair.Repair.numbered.Goals as goal
 
