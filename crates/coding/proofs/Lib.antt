@@ -1,4 +1,5 @@
 pub mod Sums
+pub mod Made
 pub mod Loops
 pub mod Positions
 pub mod Listed

@@ -10,7 +10,7 @@ use Rattle.coding.specs.declared.repair.Repair.{Repair}
 use Rattle.coding.specs.Schemes.{Sound, scheme_of}
 use Rattle.coding.specs.Groups.{groups, size, parities, chunk_of, count, nth}
 use Rattle.coding.specs.Words.{missing_chunks, missing_pieces}
-use Rattle.coding.specs.Pieces.{Grouped, Weights}
+use Rattle.coding.specs.Pieces.{Grouped, Weights, module_at, x_at}
 use Rattle.coding.specs.Steps.{flags, Gone, Left, Positions}
 use Rattle.coding.specs.Repairs.{Ready}
 use Rattle.coding.proofs.Loops.{and_is}
@@ -32,7 +32,7 @@ module _ (p : Plan) (t : Kind) (i : ℕ) (li : i < groups (scheme_of p) t) (g : 
       xs_are.is e h
       ∙ ⊎_elim
       (λ (l : e < size (scheme_of p) t).
-      ap (λ (z : ℕ). ltb e z && flags out (get_or g.modules e 0)) is.size_is ∙ ap (λ (z : ℕ). ltb e (size (scheme_of p) t) && flags out z) (is.modules_are e l))
+      ap (λ (z : ℕ). ltb e z && flags out (module_at g e)) is.size_is ∙ ap (λ (z : ℕ). ltb e (size (scheme_of p) t) && flags out z) (is.modules_are e l))
       (λ (l : size (scheme_of p) t ≤ e).
       and_left _ _ (ap (ltb e) is.size_is ∙ le-ltb e (size (scheme_of p) t) l) ∙ sym (and_left _ _ (le-ltb e (size (scheme_of p) t) l)))
       (cases_lt e (size (scheme_of p) t))
@@ -102,7 +102,7 @@ module _ (p : Plan) (t : Kind) (i : ℕ) (li : i < groups (scheme_of p) t) (g : 
 
     module _ (A : Arithmetic) (L : Lawful A) (order_is : A.order ≡ p.order) (some : n ≤ m) (s : Repair) (group_is : s.group ≡ g) (gone_is : s.gone ≡ xs) (n-is : s.count ≡ n)
         (js-is : s.missing ≡ js) (ks-is : s.parities ≡ ks) (sources : (j : ℕ) → j < 4 → get_or s.sources j 0 ≡ g.first + get_or ks j 0)
-        (rows : (j : ℕ) → j < n → Weights A g (get_or ks j 0) (get_or s.coefficients j [])) (columns : (j : ℕ) → j < 4 → get_or s.columns j 0 ≡ get_or g.xs (get_or js j 0) 0)
+        (rows : (j : ℕ) → j < n → Weights A g (get_or ks j 0) (get_or s.coefficients j [])) (columns : (j : ℕ) → j < 4 → get_or s.columns j 0 ≡ x_at g (get_or js j 0))
         (inverse : Posed A n ks s.columns → Inverse A n ks s.columns s.inverse) where
       sound : Sound A (scheme_of p)
       sound = plan.sound p A order_is
@@ -141,7 +141,7 @@ module _ (p : Plan) (t : Kind) (i : ℕ) (li : i < groups (scheme_of p) t) (g : 
                 subst (λ (zs : List ℕ). Weights A s.group (get_or zs j 0) (get_or s.coefficients j [])) (sym ks-is)
                 (subst (λ (x : Group). Weights A x (get_or ks j 0) (get_or s.coefficients j [])) (sym group_is) (rows j (omega (arith, h, n-is))));
             columns_are = λ j h.
-                columns j (omega (arith, h, n-is, few some)) ∙ ap (λ (zs : List ℕ). get_or g.xs (get_or zs j 0) 0) (sym js-is) ∙ ap (λ (x : Group). get_or x.xs (get_or s.missing j 0) 0) (sym group_is);
+                columns j (omega (arith, h, n-is, few some)) ∙ ap (λ (zs : List ℕ). x_at g (get_or zs j 0)) (sym js-is) ∙ ap (λ (x : Group). x_at x (get_or s.missing j 0)) (sym group_is);
             inverse_is =
                 subst (λ (x : ℕ). Inverse A x s.parities s.columns s.inverse) (sym n-is)
                 (subst (λ (zs : List ℕ). Inverse A n zs s.columns s.inverse) (sym ks-is) (inverse posed));

@@ -1,5 +1,5 @@
 -- What a repair answers is a word of the group's code. Assumes nothing.
-use Rattle.std.proofs.Common.{◌≡◌, ℕ, zero, suc, ◌+◌, ◌<◌, ◌≤◌, Bool, true, false, cond, not, ◌&&◌, ltb, ◌≢◌, List, [], length, get_or, replicate, Some, None, Option, sym, refl, ap, ◌∙◌, subst, inr, ⊎_elim, not-suc-le-zero, arith, length-set, get_or-set_other, get_or-set_same}
+use Rattle.std.proofs.Common.{◌≡◌, ℕ, zero, suc, ◌+◌, ◌<◌, ◌≤◌, Bool, true, false, cond, not, ◌&&◌, ltb, ◌≢◌, List, [], length, get_or, set, replicate, Some, None, Option, sym, refl, ap, ◌∙◌, subst, inr, ⊎_elim, not-suc-le-zero, arith, length-set, get_or-set_other, get_or-set_same}
 use mathlib.Core.Logic.{by_cases}
 use native.Mathlib.Decide.{ℕ_discrete}
 use lib.ListN.{get_or-replicate}
@@ -15,6 +15,7 @@ use Rattle.coding.specs.declared.repair.Repair.{Repair}
 use Rattle.coding.specs.Schemes.{Scheme}
 use Rattle.coding.specs.Groups.{size, parities, member, chunk_of, index_of, slot_of, share, parity, count}
 use Rattle.coding.specs.Words.{used}
+use Rattle.coding.specs.Pieces.{slot_at}
 use Rattle.coding.specs.Steps.{scattered}
 use Rattle.coding.specs.Repairs.{Ready, Known, Sources, Sides, Unknowns, Rebuilt, used_parity}
 use Rattle.coding.proofs.Listed.{Lists}
@@ -26,6 +27,12 @@ use Rattle.coding.proofs.Weighted.{weighted}
 
 -- what is put in its places stands there, where no place comes twice
 module _ {X : Type 0} (a : List X) (places : List ℕ) (us : ℕ → X) (d : X) where
+  -- of equal elements
+  pub scattered_same : (vs : ℕ → X) (n : ℕ) → ((j : ℕ) → j < n → vs j ≡ us j) → scattered a places vs n ≡ scattered a places us n
+  scattered_same vs zero h = refl
+  scattered_same vs (suc n) h =
+      ap (λ xs. set xs (get_or places n 0) (vs n)) (scattered_same vs n (λ j l. h j (omega arith))) ∙ ap (set (scattered a places us n) (get_or places n 0)) (h n (omega arith))
+
   pub scattered_length : (n : ℕ) → length (scattered a places us n) ≡ length a
   scattered_length zero = refl
   scattered_length (suc n) = length-set (scattered a places us n) (get_or places n 0) (us n) ∙ scattered_length n
@@ -174,7 +181,7 @@ module _ (A : Arithmetic) (L : Lawful A) where
       unfolding chunk
       left_is e l q =
           at_left e l q ∙ known.is e (omega (arith, ready.grouped.short)) (omega (arith, ready.grouped.size_is)) (ready.gone_is e l ∙ q)
-          ∙ ap (λ m. w.symbol m (get_or s.group.slots e 0) o) (ready.grouped.modules_are e l) ∙ ap (λ c. w.symbol (p.column (chunk e)) c o) (ready.grouped.slots_are e l)
+          ∙ ap (λ m. w.symbol m (slot_at s.group e) o) (ready.grouped.modules_are e l) ∙ ap (λ c. w.symbol (p.column (chunk e)) c o) (ready.grouped.slots_are e l)
 
       u_below : (j : ℕ) → j < s.count → get_or u j 0 < A.order
       u_below j h = subst (λ x. x < A.order) (sym (unknowns j h)) (total_below A L 4 (λ i. A.mul (at s.inverse j i) (get_or b i 0)))

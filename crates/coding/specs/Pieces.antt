@@ -1,9 +1,10 @@
 -- What the pieces of a group are, one by one. Assumes nothing.
-use Rattle.std.specs.Prelude.{◌≡◌, ℕ, ◌<◌, ◌≤◌, List, slice_index}
+use Rattle.std.specs.Prelude.{◌≡◌, ℕ, ◌<◌, ◌≤◌, List, slice_index, slice_index_or}
 use Rattle.field.specs.Arithmetic.{Arithmetic}
 use Rattle.field.specs.Sums.{coefficient}
 use Rattle.layout.specs.declared.plan.Cell.{Cell}
 use Rattle.coding.specs.declared.group.Kind.{Kind}
+use Rattle.coding.specs.declared.group.Piece.{Piece}
 use Rattle.coding.specs.declared.group.Group.{Group}
 use Rattle.coding.specs.Schemes.{Scheme, Sound}
 use Rattle.coding.specs.Groups.{groups, size, parities, member, chunk_of, slot_of, parity}
@@ -14,6 +15,26 @@ pub record Celled (p : Scheme) (t : Kind) (i e : ℕ) (c : Cell) : Type 0 where
   pub column_is : c.column ≡ p.column (chunk_of p t i e)
   pub x_is : c.x ≡ p.x (chunk_of p t i e)
 
+-- chunk e of a group as g has it: its module, its slot and its coefficient column; each is zero past the end
+abbrev pub no_piece : Piece
+no_piece = record { «module» = 0; slot = 0; x = 0 }
+
+abbrev pub module_at : Group → ℕ → ℕ
+module_at g e = (slice_index_or g.pieces e no_piece).module
+
+abbrev pub slot_at : Group → ℕ → ℕ
+slot_at g e = (slice_index_or g.pieces e no_piece).slot
+
+abbrev pub x_at : Group → ℕ → ℕ
+x_at g e = (slice_index_or g.pieces e no_piece).x
+
+-- c is chunk e of a group; zeros where the group has no such chunk
+pub record PieceAt (p : Scheme) (t : Kind) (i e : ℕ) (c : Piece) : Type 0 where
+  pub module_is : e < size p t → c.module ≡ p.column (chunk_of p t i e)
+  pub slot_is : e < size p t → c.slot ≡ p.row (chunk_of p t i e)
+  pub x_is : e < size p t → c.x ≡ p.x (chunk_of p t i e)
+  pub rest : size p t ≤ e → c ≡ no_piece
+
 -- g has what there is to know of a group; what is past its chunks is zero
 pub record Grouped (p : Scheme) (t : Kind) (i : ℕ) (g : Group) : Type 0 where
   pub kind_is : g.kind ≡ t
@@ -23,16 +44,16 @@ pub record Grouped (p : Scheme) (t : Kind) (i : ℕ) (g : Group) : Type 0 where
   pub parities_is : g.parities ≡ parities p t
   pub slot_is : g.slot ≡ slot_of p t i
   pub first_is : g.first ≡ p.d'
-  pub modules_are : (e : ℕ) → e < size p t → slice_index g.modules e ≡ p.column (chunk_of p t i e)
-  pub slots_are : (e : ℕ) → e < size p t → slice_index g.slots e ≡ p.row (chunk_of p t i e)
-  pub xs_are : (e : ℕ) → e < size p t → slice_index g.xs e ≡ p.x (chunk_of p t i e)
-  pub modules_rest : (e : ℕ) → size p t ≤ e → slice_index g.modules e ≡ 0
-  pub slots_rest : (e : ℕ) → size p t ≤ e → slice_index g.slots e ≡ 0
-  pub xs_rest : (e : ℕ) → size p t ≤ e → slice_index g.xs e ≡ 0
+  pub modules_are : (e : ℕ) → e < size p t → module_at g e ≡ p.column (chunk_of p t i e)
+  pub slots_are : (e : ℕ) → e < size p t → slot_at g e ≡ p.row (chunk_of p t i e)
+  pub xs_are : (e : ℕ) → e < size p t → x_at g e ≡ p.x (chunk_of p t i e)
+  pub modules_rest : (e : ℕ) → size p t ≤ e → module_at g e ≡ 0
+  pub slots_rest : (e : ℕ) → size p t ≤ e → slot_at g e ≡ 0
+  pub xs_rest : (e : ℕ) → size p t ≤ e → x_at g e ≡ 0
 
 -- r has the coefficients of the group's chunks in parity k; what is past its chunks is zero
 pub record Weights (A : Arithmetic) (g : Group) (k : ℕ) (r : List ℕ) : Type 0 where
-  pub is : (e : ℕ) → e < g.size → e < 14 → slice_index r e ≡ coefficient A k (slice_index g.xs e)
+  pub is : (e : ℕ) → e < g.size → e < 14 → slice_index r e ≡ coefficient A k (x_at g e)
   pub rest : (e : ℕ) → g.size ≤ e → slice_index r e ≡ 0
 
 -- r is parity k of every group that g can be, where its chunks, in their order, have the symbols a

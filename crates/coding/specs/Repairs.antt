@@ -8,11 +8,12 @@ use Rattle.layout.specs.declared.refusal.Refusal.{Refusal}
 use Rattle.layout.specs.declared.refusal.Refusal.TheVariants.{BeyondRepair}
 use Rattle.rack.specs.Meaning.{Meaning}
 use Rattle.coding.specs.declared.group.Kind.{Kind}
+use Rattle.coding.specs.declared.group.Group.{Group}
 use Rattle.coding.specs.declared.repair.Repair.{Repair}
 use Rattle.coding.specs.Schemes.{Scheme, Sound, scheme_of}
 use Rattle.coding.specs.Groups.{groups, size, parities, chunk_of, index_of, slot_of, nth}
 use Rattle.coding.specs.Words.{missing_chunks, missing_pieces, used, Fixed}
-use Rattle.coding.specs.Pieces.{Grouped, Weights}
+use Rattle.coding.specs.Pieces.{Grouped, Weights, module_at, slot_at, x_at}
 use Rattle.coding.specs.Steps.{flags}
 
 -- s is ready to rebuild group i where the modules that out tells are out
@@ -30,8 +31,14 @@ pub record Ready (A : Arithmetic) (p : Scheme) (t : Kind) (i : ℕ) (out : ℕ �
   pub sources_are : (j : ℕ) → j < s.count → slice_index s.sources j ≡ p.d' + slice_index s.parities j
   -- the coefficients of all chunks in these parities, and the inverse of those of the chunks that are out
   pub weights : (j : ℕ) → j < s.count → Weights A s.group (slice_index s.parities j) (slice_index_or s.coefficients j [])
-  pub columns_are : (j : ℕ) → j < s.count → slice_index s.columns j ≡ slice_index s.group.xs (slice_index s.missing j)
+  pub columns_are : (j : ℕ) → j < s.count → slice_index s.columns j ≡ x_at s.group (slice_index s.missing j)
   pub inverse_is : Inverse A s.count s.parities s.columns s.inverse
+
+-- whether a group misses more pieces than it has parities, of every group of a plan that g can be
+abbrev pub MissesTooMany : Group → List Bool → Bool → Type 0
+MissesTooMany g out r =
+    (p : Plan) (t : Kind) (i : ℕ) → i < groups (scheme_of p) t → Grouped (scheme_of p) t i g →
+    r ≡ nat_lt (parities (scheme_of p) t) (missing_pieces (scheme_of p) t i (flags out))
 
 -- what `prepare` answers: it refuses a group that misses more pieces than it has parities, and one that is not there
 abbrev pub Prepared : Plan → Arithmetic → Kind → ℕ → List Bool → Result Repair Refusal → Type 0
@@ -43,7 +50,7 @@ Prepared p A t i out (Err e) =
 
 -- the symbols of the chunks that are left, as the rack has them, and zeros in the other places
 pub record Known (s : Repair) (w : Meaning) (o : ℕ) (a : List ℕ) : Type 0 where
-  pub is : (e : ℕ) → e < 14 → e < s.group.size → flags s.gone e ≡ false → slice_index a e ≡ w.symbol (slice_index s.group.modules e) (slice_index s.group.slots e) o
+  pub is : (e : ℕ) → e < 14 → e < s.group.size → flags s.gone e ≡ false → slice_index a e ≡ w.symbol (module_at s.group e) (slot_at s.group e) o
   pub none : (e : ℕ) → flags s.gone e ≡ true → slice_index a e ≡ 0
   pub rest : (e : ℕ) → s.group.size ≤ e → slice_index a e ≡ 0
 
@@ -51,9 +58,13 @@ pub record Known (s : Repair) (w : Meaning) (o : ℕ) (a : List ℕ) : Type 0 wh
 abbrev pub Sources : Repair → Meaning → ℕ → List ℕ → Type 0
 Sources s w o ps = (j : ℕ) → j < s.count → slice_index ps j ≡ w.symbol (slice_index s.sources j) s.group.slot o
 
--- the sides of the equations: each parity that is used, less what the chunks that are left add to it
+-- side j of the equations: parity j of those that are used, less what the chunks that are left add to it
+abbrev pub Side : Arithmetic → Repair → List ℕ → List ℕ → ℕ → ℕ → Type 0
+Side A s a ps j b = b ≡ minus A (slice_index ps j) (total A 14 (λ e. A.mul (at s.coefficients j e) (slice_index a e)))
+
+-- all of them
 abbrev pub Sides : Arithmetic → Repair → List ℕ → List ℕ → List ℕ → Type 0
-Sides A s a ps b = (j : ℕ) → j < s.count → slice_index b j ≡ minus A (slice_index ps j) (total A 14 (λ e. A.mul (at s.coefficients j e) (slice_index a e)))
+Sides A s a ps b = (j : ℕ) → j < s.count → Side A s a ps j (slice_index b j)
 
 -- what the inverse gives for the sides
 abbrev pub Unknowns : Arithmetic → Repair → List ℕ → List ℕ → Type 0

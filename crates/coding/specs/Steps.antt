@@ -2,6 +2,7 @@
 use Rattle.std.specs.Prelude.{◌≡◌, ℕ, zero, suc, ◌+◌, ◌<◌, Bool, false, not, ◌&&◌, List, length, nat_lt, slice_index, slice_index_or, slice_set}
 use Rattle.coding.specs.declared.group.Group.{Group}
 use Rattle.coding.specs.Groups.{count, nth}
+use Rattle.coding.specs.Pieces.{module_at}
 
 -- the list of flags as a test
 abbrev pub flags : List Bool → ℕ → Bool
@@ -9,7 +10,7 @@ flags out m = slice_index_or out m false
 
 -- whether each chunk of the group is on a module that is out
 pub record Gone (g : Group) (out r : List Bool) : Type 0 where
-  pub is : (e : ℕ) → e < 14 → flags r e ≡ (nat_lt e g.size && flags out (slice_index g.modules e))
+  pub is : (e : ℕ) → e < 14 → flags r e ≡ (nat_lt e g.size && flags out (module_at g e))
 
 -- whether each parity of the group is on a module that is not out
 pub record Left (g : Group) (out r : List Bool) : Type 0 where

@@ -2,6 +2,7 @@
 #![tactic(auto)]
 
 pub mod group;
+mod number;
 pub mod parity;
 pub mod prepare;
 mod rebuild;

@@ -1,32 +1,31 @@
-// The parities of a group.
+//! The parities of a group.
 ghost use Rattle.std.specs.Prelude.{◌≡◌, ◌<◌, if◌then◌else◌, nat_lt, slice_index};
-ghost use Rattle.coding.specs.Pieces.{ParityBy, Weights};
+ghost use Rattle.coding.specs.Pieces.{ParityBy, Weights, x_at};
 ghost use Rattle.field.specs.Sums.{coefficient, total};
 
 use crate::group::Group;
 use field::{Field, coefficient, sum_of_products};
+use std::array;
 
-/// The coefficient of chunk `e` of the group in parity `k`; zero where the group has no such chunk.
-fn weight<F: Field>(field: &F, group: &Group, k: u8, e: usize) -> u16
-    requires { e < 14 }
-    ensures { result ≡ (if nat_lt e group.now.size then coefficient (F.arithmetic field.now) k (slice_index group.now.xs e) else 0) }
-{
-    if e < group.size as usize {
-        coefficient(field, k, group.xs[e])
-    } else {
-        0
+impl Group {
+    /// The coefficient of chunk `e` in parity `k`; zero where the group has no such chunk.
+    fn weight<F: Field>(&self, field: &F, k: u8, e: usize) -> u16
+        requires { e < 14 }
+        ensures { result ≡ (if nat_lt e self.now.size then coefficient (F.arithmetic field.now) k (x_at self.now e) else 0) }
+    {
+        if e < usize::from(self.size) {
+            coefficient(field, k, self.pieces[e].x)
+        } else {
+            0
+        }
     }
-}
 
-/// The coefficients of the group's chunks in parity `k`, and zeros after them.
-pub fn weights<F: Field>(field: &F, group: &Group, k: u8) -> [u16; 14]
-    ensures { Weights (F.arithmetic field.now) group.now k result }
-{
-    let mut out = [0; 14];
-    for e in 0..14 {
-        out[e] = weight(field, group, k, e);
+    /// The coefficients of the chunks in parity `k`, and zeros after them.
+    pub fn weights<F: Field>(&self, field: &F, k: u8) -> [u16; 14]
+        ensures { Weights (F.arithmetic field.now) self.now k result }
+    {
+        array::from_fn(|e| self.weight(field, k, e))
     }
-    out
 }
 
 /// The sum of the products of two arrays, place by place.

@@ -1,12 +1,14 @@
-// Using a repair.
-ghost use Rattle.std.specs.Prelude.{◌≡◌, ◌<◌, not, ◌&&◌, replicate, if◌then◌else◌, Some, None, nat_lt, slice_index};
-ghost use Rattle.coding.specs.Repairs.{Answers, Known, Sides, Sources, Unknowns, Uses};
+//! Using a repair.
+ghost use Rattle.std.specs.Prelude.{◌≡◌, ℕ, ◌<◌, ◌≤◌, not, ◌&&◌, replicate, if◌then◌else◌, Some, None, nat_lt, slice_index, slice_index_or};
+ghost use Rattle.coding.specs.Pieces.{module_at, slot_at};
+ghost use Rattle.coding.specs.Repairs.{Answers, Known, Side, Sides, Sources, Unknowns, Uses};
 ghost use Rattle.coding.specs.Steps.{flags, scattered};
 
 use crate::parity::products;
 use crate::repair::{Pieces, Repair};
 use field::Field;
 use rack::rack::Rack;
+use std::array;
 
 /// The symbol at a place; 0 where there is none.
 fn symbol<R: Rack>(rack: &R, module: u16, slot: u16, offset: u16) -> u16
@@ -15,14 +17,34 @@ fn symbol<R: Rack>(rack: &R, module: u16, slot: u16, offset: u16) -> u16
     rack.get(module, slot, offset).unwrap_or(0)
 }
 
+/// The array `start`, with the first `n` of the values in their places.
+fn scatter<T: Copy + Drop, const N: usize>(
+    start: [T; N],
+    places: [u8; 4],
+    values: [T; 4],
+    n: usize,
+) -> [T; N]
+    requires few { n ≤ 4 }
+    requires inside { (j : ℕ) → j < 4 → slice_index places j < N }
+    ensures { (d : T) → result ≡ scattered start places (λ j. slice_index_or values j d) n }
+{
+    let mut all = start;
+    // by index: a `zip` would take the first `n` of both arrays, and be no plainer
+    for j in 0..n {
+        all[usize::from(places[j])] = values[j];
+    }
+    all
+}
+
 impl Repair {
     /// The symbol of chunk `e`; zero where it is missing, and where the group has no such chunk.
     fn known_at<R: Rack>(&self, rack: &R, offset: u16, e: usize) -> u16
         requires { e < 14 }
-        ensures { R.valid rack.now → result ≡ (if nat_lt e self.now.group.size && not (flags self.now.gone e) then (R.meaning rack.now).symbol (slice_index self.now.group.modules e) (slice_index self.now.group.slots e) offset else 0) }
+        ensures { R.valid rack.now → result ≡ (if nat_lt e self.now.group.size && not (flags self.now.gone e) then (R.meaning rack.now).symbol (module_at self.now.group e) (slot_at self.now.group e) offset else 0) }
     {
-        if e < self.group.size as usize && !self.gone[e] {
-            symbol(rack, self.group.modules[e], self.group.slots[e], offset)
+        if e < usize::from(self.group.size) && !self.gone[e] {
+            let piece = self.group.pieces[e];
+            symbol(rack, piece.module, piece.slot, offset)
         } else {
             0
         }
@@ -32,74 +54,72 @@ impl Repair {
     fn known<R: Rack>(&self, rack: &R, offset: u16) -> [u16; 14]
         ensures { R.valid rack.now → Known self.now (R.meaning rack.now) offset result }
     {
-        let mut a = [0; 14];
-        for e in 0..14 {
-            a[e] = self.known_at(rack, offset, e);
-        }
-        a
+        array::from_fn(|e| self.known_at(rack, offset, e))
     }
 
-    /// The symbol of number `j` of the parities that are used.
+    /// The symbol of number `j` of the parities that are used; zero past the last of them.
     fn source_at<R: Rack>(&self, rack: &R, offset: u16, j: usize) -> u16
         requires { j < 4 }
-        ensures { R.valid rack.now → result ≡ (R.meaning rack.now).symbol (slice_index self.now.sources j) self.now.group.slot offset }
+        ensures { R.valid rack.now → j < self.now.count → result ≡ (R.meaning rack.now).symbol (slice_index self.now.sources j) self.now.group.slot offset }
     {
-        symbol(rack, self.sources[j], self.group.slot, offset)
+        if j < self.count {
+            symbol(rack, self.sources[j], self.group.slot, offset)
+        } else {
+            0
+        }
     }
 
-    /// The symbols of the parities that are used.
+    /// The symbols of the parities that are used, and zeros after them.
     fn sources_at<R: Rack>(&self, rack: &R, offset: u16) -> [u16; 4]
         ensures { R.valid rack.now → Sources self.now (R.meaning rack.now) offset result }
     {
-        let mut symbols = [0; 4];
-        for j in 0..self.count {
-            symbols[j] = self.source_at(rack, offset, j);
-        }
-        symbols
+        array::from_fn(|j| self.source_at(rack, offset, j))
     }
 
     /// The symbols of the parities that are used, by the numbers of the parities.
     fn numbered(&self, symbols: [u16; 4]) -> [Option<u16>; 4]
         ensures { result ≡ scattered (replicate 4 None) self.now.parities (λ j. Some (slice_index symbols j)) self.now.count }
     {
-        let mut all = [None; 4];
-        for j in 0..self.count {
-            all[self.parities[j] as usize] = Some(symbols[j]);
+        scatter([None; 4], self.parities, symbols.map(Some), self.count)
+    }
+
+    /// Side `j` of the equations; zero past the last of them.
+    fn side<F: Field>(&self, field: &F, known: [u16; 14], symbols: [u16; 4], j: usize) -> u16
+        requires { j < 4 }
+        ensures { j < self.now.count → Side (F.arithmetic field.now) self.now known symbols j result }
+    {
+        if j < self.count {
+            field.sub(symbols[j], products(field, self.coefficients[j], known))
+        } else {
+            0
         }
-        all
     }
 
     /// The sides of the equations: what the chunks that are missing add to each parity that is used.
     fn sides<F: Field>(&self, field: &F, known: [u16; 14], symbols: [u16; 4]) -> [u16; 4]
         ensures { Sides (F.arithmetic field.now) self.now known symbols result }
     {
-        let mut sides = [0; 4];
-        for j in 0..self.count {
-            sides[j] = field.sub(symbols[j], products(field, self.coefficients[j], known));
-        }
-        sides
+        array::from_fn(|j| self.side(field, known, symbols, j))
     }
 
     /// The symbols of the missing chunks.
     fn unknowns<F: Field>(&self, field: &F, sides: [u16; 4]) -> [u16; 4]
         ensures { Unknowns (F.arithmetic field.now) self.now sides result }
     {
-        let mut unknowns = [0; 4];
-        for j in 0..self.count {
-            unknowns[j] = products(field, self.inverse[j], sides);
-        }
-        unknowns
+        array::from_fn(|j| {
+            if j < self.count {
+                products(field, self.inverse[j], sides)
+            } else {
+                0
+            }
+        })
     }
 
     /// The known symbols, with those of the missing chunks in their places.
     fn joined(&self, known: [u16; 14], unknowns: [u16; 4]) -> [u16; 14]
         ensures { result ≡ scattered known self.now.missing (λ j. slice_index unknowns j) self.now.count }
     {
-        let mut a = known;
-        for j in 0..self.count {
-            a[self.missing[j] as usize] = unknowns[j];
-        }
-        a
+        scatter(known, self.missing, unknowns, self.count)
     }
 
     /// The symbols of the group's pieces at an offset. The chunks that are left are as the rack has them, and those that are

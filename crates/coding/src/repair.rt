@@ -1,10 +1,11 @@
-// What is worked out once for a group that misses pieces.
+//! What is worked out once for a group that misses pieces.
 ghost use Rattle.std.specs.Prelude.{ℕ, ◌<◌, ◌≤◌, slice_index};
 
 use crate::group::Group;
 
 /// How the missing chunks of a group follow from the first pieces that are left: all its other chunks, and as many of its
 /// parities as chunks are missing.
+// Arrays of four side by side, since the equations take plain arrays by value.
 #[derive(Clone, Copy)]
 pub struct Repair {
     /// the group, with the places of its pieces

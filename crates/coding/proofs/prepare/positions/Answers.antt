@@ -1,7 +1,7 @@
 use Rattle.std.proofs.Common.{◌<◌, length, ◌∙◌, arith}
 use Rattle.coding.proofs.Positions.{begun, noted, passed, full, positions, found_le, found_as}
 use Rattle.coding.proofs.prepare.positions.Goals as goal
-use Rattle.coding.proofs.prepare.positions.Goals.{then-xs-e, then-n-lt4, else-n-lt4, else-xs-e}
+use Rattle.coding.proofs.prepare.positions.Goals.{then-is_set, then-n-lt4, else-n-lt4, else-is_set}
 
 pub loop-e-init : goal.loop-e-init
 loop-e-init c = begun c.args.xs.now c.requires.some
@@ -17,12 +17,12 @@ loop-e-preserved c =
     let n = c.loop-e.n in
     let inv = c.loop-e.invariant in
     let le : e < length xs = omega arith in
-    elim c.if-xs-e.branch [
-      | then-xs-e w ↦ elim w.if-n-lt4.branch [
-        | then-n-lt4 w' ↦ found_as xs _ _ _ _ _ (w.list-is ∙ w'.list-is) w.n-is (noted xs e list n inv w.if-xs-e.true w'.if-n-lt4.true le)
-        | else-n-lt4 w' ↦ found_as xs _ _ _ _ _ (w.list-is ∙ w'.list-is) w.n-is (full xs e list n inv w.if-xs-e.true w'.if-n-lt4.false)
+    elim c.if-is_set.branch [
+      | then-is_set w ↦ elim w.if-n-lt4.branch [
+        | then-n-lt4 w' ↦ found_as xs _ _ _ _ _ (w.list-is ∙ w'.list-is) w.n-is (noted xs e list n inv w.if-is_set.true w'.if-n-lt4.true le)
+        | else-n-lt4 w' ↦ found_as xs _ _ _ _ _ (w.list-is ∙ w'.list-is) w.n-is (full xs e list n inv w.if-is_set.true w'.if-n-lt4.false)
       ]
-      | else-xs-e w ↦ found_as xs _ _ _ _ _ w.list-is w.n-is (passed xs e list n inv w.if-xs-e.false)
+      | else-is_set w ↦ found_as xs _ _ _ _ _ w.list-is w.n-is (passed xs e list n inv w.if-is_set.false)
     ]
 
 pub returns : goal.returns

@@ -1,10 +1,11 @@
-use Rattle.std.proofs.Common.{ℕ, get_or, set, replicate, Some, None, sym, ap, ◌∙◌, add-one}
-use Rattle.coding.specs.Steps.{scattered}
+use Rattle.std.proofs.Common.{◌≡◌, ℕ, ◌<◌, get_or, replicate, Some, None, ◌∙◌, arith, rules}
+use Rattle.coding.proofs.Solving.{scattered_same}
 use Rattle.coding.proofs.repair.Repair.numbered.Goals as goal
 
-pub loop-j-preserved : goal.loop-j-preserved
-loop-j-preserved c =
-    let ks = c.args.self.now.parities in
-    let ps = c.args.symbols in
-    let j = c.loop-j.j in
-    ap (λ xs. set xs (get_or ks j 0) (Some (get_or ps j 0))) c.loop-j.invariant ∙ sym (ap (λ (i : ℕ). scattered (replicate 4 None) ks (λ j. Some (get_or ps j 0)) i) (add-one j))
+pub returns : goal.returns
+returns c =
+    let few = c.args.self.now.few in
+    let each : (j : ℕ) → j < 4 → get_or c.map.result j None ≡ Some (get_or c.args.symbols j 0) = λ j l. let k = c.map.ensures.items.at j 0 None l in search rules in
+    c.scatter.ensures None
+    ∙ scattered_same (replicate 4 None) c.args.self.now.parities (λ j. Some (get_or c.args.symbols j 0)) None (λ j. get_or c.map.result j None) c.args.self.now.count
+    (λ j h. each j (omega arith))
