@@ -10,7 +10,7 @@ use Rattle.layout.proofs.OfPlan as layout
 use Rattle.rack.specs.Meaning.{Meaning}
 use Rattle.coding.specs.Schemes.{Scheme, scheme_of}
 use Rattle.coding.specs.Groups.{share, count}
-use Rattle.coding.specs.Pieces.{Grouped}
+use Rattle.coding.specs.Pieces.{Grouped, module_at, slot_at}
 use Rattle.coding.specs.declared.group.Group.{Group}
 use Rattle.coding.specs.declared.group.Kind.TheVariants.{Stripe}
 use Rattle.coding.proofs.Counting.{count_same}
@@ -36,13 +36,13 @@ module _ (A : Arithmetic) (x : Load) (h : Loaded A x) where
   inside e l = layout.chunk_lt x.plan x.group.index e h.inside l
 
   -- the place of a chunk
-  pub module_of : (e : ℕ) → e < x.group.size → get_or x.group.modules e 0 ≡ (scheme_of x.plan).column (chunk e)
+  pub module_of : (e : ℕ) → e < x.group.size → module_at x.group e ≡ (scheme_of x.plan).column (chunk e)
   module_of e l = h.grouped.modules_are e (within e l)
 
-  pub slot_of_lem : (e : ℕ) → e < x.group.size → get_or x.group.slots e 0 ≡ (scheme_of x.plan).row (chunk e)
+  pub slot_of_lem : (e : ℕ) → e < x.group.size → slot_at x.group e ≡ (scheme_of x.plan).row (chunk e)
   slot_of_lem e l = h.grouped.slots_are e (within e l)
 
-  pub row_below : (e : ℕ) → e < x.group.size → get_or x.group.slots e 0 < (scheme_of x.plan).rows
+  pub row_below : (e : ℕ) → e < x.group.size → slot_at x.group e < (scheme_of x.plan).rows
   row_below e l = omega (arith, slot_of_lem e l, (layout.promises x.plan).in_rows (chunk e) (chunk_below e l))
 
   pub home_below : x.home < (scheme_of x.plan).rows
@@ -55,13 +55,13 @@ module _ (A : Arithmetic) (x : Load) (h : Loaded A x) where
       ap (λ (z : ℕ). A.mul z a) ((h.weights_are k few).is e l (short e l) ∙ ap (λ (z : ℕ). coefficient A k z) (h.grouped.xs_are e (within e l)))
 
   -- its symbol
-  pub chunk_symbol : (w : Meaning) (e u : ℕ) → e < x.group.size → w.symbol (get_or x.group.modules e 0) (get_or x.group.slots e 0) u ≡ chunks_at (scheme_of x.plan) w u (chunk e)
+  pub chunk_symbol : (w : Meaning) (e u : ℕ) → e < x.group.size → w.symbol (module_at x.group e) (slot_at x.group e) u ≡ chunks_at (scheme_of x.plan) w u (chunk e)
   chunk_symbol w e u l =
-      ap (λ (z : ℕ). w.symbol z (get_or x.group.slots e 0) u) (module_of e l) ∙ ap (λ (z : ℕ). w.symbol ((scheme_of x.plan).column (chunk e)) z u) (slot_of_lem e l)
+      ap (λ (z : ℕ). w.symbol z (slot_at x.group e) u) (module_of e l) ∙ ap (λ (z : ℕ). w.symbol ((scheme_of x.plan).column (chunk e)) z u) (slot_of_lem e l)
 
   -- what a chunk adds
   pub shares_are : (w : Meaning) (k e u a s : ℕ) → k < (scheme_of x.plan).r' → e < x.group.size → a ≡ A.mul (get_or (get_or x.weights k []) e 0) s →
-      s ≡ w.symbol (get_or x.group.modules e 0) (get_or x.group.slots e 0) u → a ≡ share A (scheme_of x.plan) k (chunk e) (chunks_at (scheme_of x.plan) w u (chunk e))
+      s ≡ w.symbol (module_at x.group e) (slot_at x.group e) u → a ≡ share A (scheme_of x.plan) k (chunk e) (chunks_at (scheme_of x.plan) w u (chunk e))
   shares_are w k e u a s lk l is from =
       is ∙ share_is k e s lk l ∙ ap (λ (z : ℕ). share A (scheme_of x.plan) k (chunk e) z) (from ∙ chunk_symbol w e u l)
 
@@ -71,7 +71,7 @@ count_step f e n m b is a c = c ∙ ap (λ (z : ℕ). z + cond b 1 0) a ∙ ap (
 
 -- what carrying a stripe reads
 module _ (x : Load) (grouped : Grouped (scheme_of x.plan) Stripe x.group.index x.group) (home : x.home ≡ (scheme_of x.plan).home x.group.index) where
-  pub reads_outside : (n : ℕ) → x.plan.r2 ≤ x.plan.r → n ≡ count (λ e. not (eqb (get_or x.group.slots e 0) x.home)) x.group.size →
+  pub reads_outside : (n : ℕ) → x.plan.r2 ≤ x.plan.r → n ≡ count (λ e. not (eqb (slot_at x.group e) x.home)) x.group.size →
       ◌≡◌ {A = ℕ × ℕ} (n, x.plan.r2) (carried_data (scheme_of x.plan) x.group.index, carried_parities (scheme_of x.plan))
   reads_outside n few is =
       let p : Scheme = scheme_of x.plan in
@@ -79,8 +79,8 @@ module _ (x : Load) (grouped : Grouped (scheme_of x.plan) Stripe x.group.index x
       let test = le-leb x.plan.r2 x.plan.r few in
       let a : n ≡ carried_data p i =
       is
-      ∙ ap (count (λ e. not (eqb (get_or x.group.slots e 0) x.home))) grouped.size_is
-      ∙ count_same (λ e. not (eqb (get_or x.group.slots e 0) x.home)) (λ e. not (eqb (p.row (i * p.d + e)) (p.home i))) p.d
+      ∙ ap (count (λ e. not (eqb (slot_at x.group e) x.home))) grouped.size_is
+      ∙ count_same (λ e. not (eqb (slot_at x.group e) x.home)) (λ e. not (eqb (p.row (i * p.d + e)) (p.home i))) p.d
       (λ e l. ap (λ (z : ℕ). not (eqb z x.home)) (grouped.slots_are e l) ∙ ap (λ (z : ℕ). not (eqb (p.row (i * p.d + e)) z)) home)
       ∙ sym (cond-true (leb p.r' p.r) _ p.d test) in
       let b : x.plan.r2 ≡ carried_parities p = sym (cond-true (leb p.r' p.r) p.r' 0 test) in
@@ -127,9 +127,9 @@ some_same f g zero same = refl
 some_same f g (suc n) same = ap (λ (b : Bool). b || f n) (some_same f g n (λ e l. same e (omega arith))) ∙ ap (λ (b : Bool). some g n || b) (same n (omega arith))
 
 module _ (p : Scheme) (i : ℕ) (group : Group) (grouped : Grouped p Stripe i group) (home : ℕ) (home_is : home ≡ p.home i) where
-  pub all_marked : (n h : ℕ) → n ≡ p.d → ((leb p.r' p.r && eqb h home) || some (λ e. eqb (get_or group.slots e 0) h) n) ≡ touches p i h
+  pub all_marked : (n h : ℕ) → n ≡ p.d → ((leb p.r' p.r && eqb h home) || some (λ e. eqb (slot_at group e) h) n) ≡ touches p i h
   all_marked n h all =
-      ap (λ (j : ℕ). (leb p.r' p.r && eqb h j) || some (λ e. eqb (get_or group.slots e 0) h) n) home_is
-      ∙ ap (λ (m : ℕ). (leb p.r' p.r && eqb h (p.home i)) || some (λ e. eqb (get_or group.slots e 0) h) m) all
+      ap (λ (j : ℕ). (leb p.r' p.r && eqb h j) || some (λ e. eqb (slot_at group e) h) n) home_is
+      ∙ ap (λ (m : ℕ). (leb p.r' p.r && eqb h (p.home i)) || some (λ e. eqb (slot_at group e) h) m) all
       ∙ ap (λ (b : Bool). (leb p.r' p.r && eqb h (p.home i)) || b)
-      (some_same (λ e. eqb (get_or group.slots e 0) h) (λ e. eqb (p.row (chunk_in p i e)) h) p.d (λ e l. ap (λ (j : ℕ). eqb j h) (grouped.slots_are e l)))
+      (some_same (λ e. eqb (slot_at group e) h) (λ e. eqb (p.row (chunk_in p i e)) h) p.d (λ e l. ap (λ (j : ℕ). eqb j h) (grouped.slots_are e l)))

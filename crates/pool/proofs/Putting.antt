@@ -10,7 +10,7 @@ use Rattle.coding.specs.declared.group.Group.{Group}
 use Rattle.coding.specs.declared.repair.Repair.{Repair}
 use Rattle.coding.specs.Schemes.{Scheme, Sound}
 use Rattle.coding.specs.Groups.{groups, size, member, chunk_of, index_of, parity}
-use Rattle.coding.specs.Pieces.{Grouped, ParityOf}
+use Rattle.coding.specs.Pieces.{Grouped, ParityOf, module_at, slot_at}
 use Rattle.coding.specs.Repairs.{Ready, Rebuilt}
 use Rattle.coding.proofs.Listed.{Lists}
 use Rattle.coding.proofs.Grouping.{members, few_parities}
@@ -57,22 +57,22 @@ none_put p t i m u a w = record { shape = refl; same = λ n slot b off. refl; do
 module _ (A : Arithmetic) (p : Scheme) (sound : Sound A p) (t : Kind) (i : ℕ) (li : i < groups p t) (m u : ℕ) (w : Meaning) (space : Space p w m u) where
   module _ (g : Group) (grouped : Grouped p t i g) (a : List ℕ) (codes : (k : ℕ) → get_or a k 0 < w.order) (e : ℕ) (w1 w2 : Meaning) (put : ChunksPut p t i m u a e w w1) where
     -- the next chunk is on the module
-    module _ (le : e < size p t) (col : p.column (chunk_of p t i e) ≡ m) (after : w2 ≡ after_put w1 m (get_or g.slots e 0) u (get_or a e 0)) where
+    module _ (le : e < size p t) (col : p.column (chunk_of p t i e) ≡ m) (after : w2 ≡ after_put w1 m (slot_at g e) u (get_or a e 0)) where
       list : Lists p.chunks (size p t) (member p t i) (chunk_of p t i) (index_of p t)
       list = members A p sound t i li
 
-      row_is : get_or g.slots e 0 ≡ p.row (chunk_of p t i e)
+      row_is : slot_at g e ≡ p.row (chunk_of p t i e)
       row_is = grouped.slots_are e le
 
-      at : StoredAt w1 w2 m (get_or g.slots e 0) u (get_or a e 0)
+      at : StoredAt w1 w2 m (slot_at g e) u (get_or a e 0)
       at =
           let now = same_space p w w1 m u put.shape space in
           let order : w1.order ≡ w.order = ap (λ (z : Meaning). z.order) put.shape in
-          stored_at w1 w2 m (get_or g.slots e 0) u (get_or a e 0) after now.inside
+          stored_at w1 w2 m (slot_at g e) u (get_or a e 0) after now.inside
           (omega (arith, row_is, sound.in_rows (chunk_of p t i e) (list.below e le), now.slots_fit))
           now.offset now.fitted (omega (arith, codes e, order))
 
-      other : (k : ℕ) → k ≢ e → k < size p t → p.column (chunk_of p t i k) ≡ m → p.row (chunk_of p t i k) ≡ get_or g.slots e 0 → ⊥
+      other : (k : ℕ) → k ≢ e → k < size p t → p.column (chunk_of p t i k) ≡ m → p.row (chunk_of p t i k) ≡ slot_at g e → ⊥
       other k ne lk ck r =
           let same = one_place A p sound (chunk_of p t i k) (chunk_of p t i e) (list.below k lk) (list.below e le) (ck ∙ sym col) (r ∙ row_is) in
           ne (sym (list.place k lk) ∙ ap (index_of p t) same ∙ list.place e le)
@@ -105,18 +105,18 @@ module _ (A : Arithmetic) (p : Scheme) (sound : Sound A p) (t : Kind) (i : ℕ) 
 
     pub more_put : w2 ≡ chunk_put g m u e a w1 → ChunksPut p t i m u a (e + 1) w w2
     more_put is =
-        let here : Bool = ltb e g.size && eqb (get_or g.modules e 0) m in
-        let put-it : Meaning = after_put w1 m (get_or g.slots e 0) u (get_or a e 0) in
+        let here : Bool = ltb e g.size && eqb (module_at g e) m in
+        let put-it : Meaning = after_put w1 m (slot_at g e) u (get_or a e 0) in
         ⊎_elim
         (λ (q : here ≡ true).
-        let b = and_parts (ltb e g.size) (eqb (get_or g.modules e 0) m) q in
+        let b = and_parts (ltb e g.size) (eqb (module_at g e) m) q in
         let le : e < size p t = omega (arith, ltb-true e g.size b.0, grouped.size_is) in
-        next_put le (sym (grouped.modules_are e le) ∙ eqb-true (get_or g.modules e 0) m b.1) (is ∙ cond-true here put-it w1 q))
+        next_put le (sym (grouped.modules_are e le) ∙ eqb-true (module_at g e) m b.1) (is ∙ cond-true here put-it w1 q))
         (λ (q : here ≡ false).
         skip_put
         (λ le col.
         both_ways here q
-        (and_from (ltb e g.size) (eqb (get_or g.modules e 0) m) (lt-ltb e g.size (omega (arith, grouped.size_is))) (eq-eqb (get_or g.modules e 0) m (grouped.modules_are e le ∙ col))))
+        (and_from (ltb e g.size) (eqb (module_at g e) m) (lt-ltb e g.size (omega (arith, grouped.size_is))) (eq-eqb (module_at g e) m (grouped.modules_are e le ∙ col))))
         (is ∙ cond-false here put-it w1 q))
         (cases_Bool here)
 

@@ -7,7 +7,7 @@ use Rattle.coding.specs.declared.group.Kind.{Kind}
 use Rattle.coding.specs.declared.repair.Repair.{Repair}
 use Rattle.coding.specs.Schemes.{Scheme, Sound}
 use Rattle.coding.specs.Groups.{groups, size, parities, member, chunk_of, slot_of, parity}
-use Rattle.coding.specs.Pieces.{Grouped, Weights}
+use Rattle.coding.specs.Pieces.{Grouped, Weights, module_at, slot_at}
 use Rattle.coding.specs.Repairs.{Ready}
 use Rattle.coding.specs.Words.{Fixed}
 use Rattle.pool.specs.Book.{holds_piece, beyond}
@@ -15,8 +15,8 @@ use Rattle.pool.specs.Effects.{changed}
 
 -- r tells whether a group has a chunk on module m
 pub record HasChunk (g : Group) (m : ℕ) (r : Bool) : Type 0 where
-  pub yes : r ≡ true → (e : ℕ) × (e < 14) × (e < g.size) × (slice_index g.modules e ≡ m)
-  pub no : r ≡ false → (e : ℕ) → e < 14 → e < g.size → slice_index g.modules e ≢ m
+  pub yes : r ≡ true → (e : ℕ) × (e < 14) × (e < g.size) × (module_at g e ≡ m)
+  pub no : r ≡ false → (e : ℕ) → e < 14 → e < g.size → module_at g e ≢ m
 
 -- r tells which parity of a group is on module m
 abbrev pub ParityOn : Group → ℕ → Option ℕ → Type 0
@@ -47,7 +47,7 @@ pub record Space (p : Scheme) (w : Meaning) (m u : ℕ) : Type 0 where
 
 -- one chunk of a group is put in its place where that is on module m
 abbrev pub chunk_put : Group → ℕ → ℕ → ℕ → List ℕ → Meaning → Meaning
-chunk_put g m u e a w = cond (nat_lt e g.size && slice_index g.modules e == m) (after_put w m (slice_index g.slots e) u (slice_index a e)) w
+chunk_put g m u e a w = cond (nat_lt e g.size && module_at g e == m) (after_put w m (slot_at g e) u (slice_index a e)) w
 
 -- those of the first e chunks of a group that are on module m are put in their places, and nothing else is changed
 pub record ChunksPut (p : Scheme) (t : Kind) (i m u : ℕ) (a : List ℕ) (e : ℕ) (w w' : Meaning) : Type 0 where

@@ -2,7 +2,7 @@
 ghost use Rattle.std.specs.Prelude.{◌≡◌, ℕ, ◌+◌, ◌<◌, ◌≤◌, false, not, [], None, MatchOption, ◌==◌, slice_index, slice_index_or};
 ghost use Rattle.coding.specs.Groups.{count};
 ghost use Rattle.coding.specs.declared.group.Kind.TheVariants.{Stripe};
-ghost use Rattle.coding.specs.Pieces.{Grouped, Weights};
+ghost use Rattle.coding.specs.Pieces.{Grouped, Weights, slot_at};
 ghost use Rattle.coding.specs.Schemes.{scheme_of};
 ghost use Rattle.pool.specs.Book.{carried_data, carried_parities};
 ghost use Rattle.pool.specs.Effects.{changed, carried_symbol, chunk_in, chunks_at, outside_row, own_row};
@@ -17,7 +17,6 @@ use crate::load::Load;
 use crate::orders::Order;
 use crate::pool::Pool;
 use coding::group::{Group, Kind};
-use coding::parity::weights;
 use field::Field;
 use layout::plan::Plan;
 use layout::refusal::Refusal;
@@ -59,7 +58,7 @@ fn weights_of<F: Field>(field: &F, group: &Group) -> [[u16; 14]; 4]
     [0, 1, 2, 3].map(
         |k: u8| -> [u16; 14]
             ensures { Weights (F.arithmetic field.entry.now) group.entry.now k result }
-        { weights(field, group, k) },
+        { group.weights(field, k) },
     )
 }
 
@@ -72,8 +71,9 @@ fn touched_rows(plan: &Plan, group: &Group, home: u16) -> [bool; 14]
 {
     let mut touched = [false; 14];
     touched[home as usize] = plan.r2 <= plan.r;
-    for e in 0..group.size as usize {
-        touched[group.slots[e] as usize] = true;
+    // by index: no proof knows how long the array of pieces in a struct is, so one that goes over its elements does not close
+    for e in 0..usize::from(group.size) {
+        touched[group.pieces[e].slot as usize] = true;
     }
     touched
 }
@@ -123,8 +123,8 @@ impl<'a, F: Field> Carrying<'a, F> {
         requires { e < self.now.load.group.size }
         ensures { R.valid rack.now → Shares (F.arithmetic self.now.field.now) self.now.load e (chunks_at (scheme_of self.now.load.plan) (R.meaning rack.now) offset (chunk_in (scheme_of self.now.load.plan) self.now.load.group.index e)) result }
     {
-        let group = &self.load.group;
-        let value = symbol(rack, group.modules[e], group.slots[e], offset);
+        let piece = self.load.group.pieces[e];
+        let value = symbol(rack, piece.module, piece.slot, offset);
         let field = self.field;
         self.load.weights.map(
             |weights: [u16; 14]| -> u16
@@ -140,7 +140,7 @@ impl<'a, F: Field> Carrying<'a, F> {
         ensures { R.valid rack.now → Adds (F.arithmetic self.now.field.now) (scheme_of self.now.load.plan).r' (scheme_of self.now.load.plan).rows (λ k h. own_row (F.arithmetic self.now.field.now) (scheme_of self.now.load.plan) self.now.load.group.index k (chunks_at (scheme_of self.now.load.plan) (R.meaning rack.now) offset) h e) gains result }
     {
         let shares = self.shares_at(rack, e, offset);
-        add_shares(self.field, gains, self.load.group.slots[e], shares)
+        add_shares(self.field, gains, self.load.group.pieces[e].slot, shares)
     }
 
     /// The gains with chunk `e` of the stripe moved from the home row, which has the stripe's parities, to its own row. A chunk of
@@ -149,7 +149,7 @@ impl<'a, F: Field> Carrying<'a, F> {
         requires { e < self.now.load.group.size }
         ensures { R.valid rack.now → Adds (F.arithmetic self.now.field.now) (scheme_of self.now.load.plan).r' (scheme_of self.now.load.plan).rows (λ k h. outside_row (F.arithmetic self.now.field.now) (scheme_of self.now.load.plan) self.now.load.group.index k (chunks_at (scheme_of self.now.load.plan) (R.meaning rack.now) offset) h e) gains result }
     {
-        let row = self.load.group.slots[e];
+        let row = self.load.group.pieces[e].slot;
         if row == self.load.home {
             return gains;
         }
@@ -234,11 +234,12 @@ impl<'a, F: Field> Carrying<'a, F> {
 
     /// How many chunks of the stripe lie outside its home row.
     fn outside_home(&self) -> u16
-        ensures { result ≡ count (λ e. not (slice_index self.now.load.group.slots e == self.now.load.home)) self.now.load.group.size }
+        ensures { result ≡ count (λ e. not (slot_at self.now.load.group e == self.now.load.home)) self.now.load.group.size }
     {
         let mut n = 0;
-        for e in 0..self.load.group.size as usize {
-            if self.load.group.slots[e] != self.load.home {
+        // by index, as in `touched_rows`
+        for e in 0..usize::from(self.load.group.size) {
+            if self.load.group.pieces[e].slot != self.load.home {
                 n += 1;
             }
         }

@@ -4,7 +4,6 @@
 mod adding;
 pub mod carry;
 pub mod changeover;
-mod groups;
 pub mod kinds;
 pub mod lay;
 mod load;

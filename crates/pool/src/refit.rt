@@ -12,7 +12,7 @@ ghost use Rattle.pool.specs.Restored.{HasChunk, ParityOn, WeightsOn, chunk_put, 
 use crate::outs::outs;
 use crate::pool::Pool;
 use coding::group::{Group, Kind};
-use coding::parity::{parity_of, weights};
+use coding::parity::parity_of;
 use coding::prepare::{is_beyond, prepare};
 use coding::repair::Repair;
 use field::Field;
@@ -20,22 +20,12 @@ use layout::plan::Plan;
 use layout::refusal::Refusal;
 use rack::rack::Rack;
 
-/// How many groups of a kind there are.
-fn groups_of(plan: &Plan, kind: Kind) -> u16
-    ensures { result ≡ groups (scheme_of plan.now) kind }
-{
-    match kind {
-        Kind::Stripe => plan.stripes(),
-        Kind::Row => plan.rows(),
-    }
-}
-
 /// Whether a group has a chunk on a module.
 fn has_chunk(group: &Group, module: u16) -> bool
     ensures { HasChunk group.now «module» result }
 {
     for e in 0..14 {
-        if e < group.size as usize && group.modules[e] == module {
+        if e < group.size as usize && group.pieces[e].module == module {
             return true;
         }
     }
@@ -62,7 +52,7 @@ fn weights_on<F: Field>(field: &F, group: &Group, module: u16) -> Option<[u16; 1
     ensures { WeightsOn (F.arithmetic field.now) group.now «module» result }
 {
     let k = parity_on(group, module)?;
-    Some(weights(field, group, k))
+    Some(group.weights(field, k))
 }
 
 /// A group whose pieces on a module are rebuilt.
@@ -79,9 +69,9 @@ impl<F: Field> Restoring<'_, F> {
         requires { e < 14 }
         ensures { R.valid rack.old → R.valid rack.new × (R.meaning rack.new ≡ chunk_put self.now.repair.group self.now.«module» offset e chunks (R.meaning rack.old)) }
     {
-        let group = &self.repair.group;
-        if e < group.size as usize && group.modules[e] == self.module {
-            let _ = rack.put(self.module, group.slots[e], offset, chunks[e]);
+        let piece = self.repair.group.pieces[e];
+        if e < usize::from(self.repair.group.size) && piece.module == self.module {
+            let _ = rack.put(self.module, piece.slot, offset, chunks[e]);
         }
     }
 
@@ -167,7 +157,7 @@ impl<F: Field> Refitting<'_, F> {
     fn first_beyond(&self) -> Option<u16>
         ensures { result ≡ lowest (λ i. holds_piece (scheme_of self.now.plan) self.now.kind self.now.«module» i && beyond (scheme_of self.now.plan) self.now.kind (flags self.now.out) i) (groups (scheme_of self.now.plan) self.now.kind) }
     {
-        (0..groups_of(&self.plan, self.kind)).find(|index| self.cannot_restore(*index))
+        (0..self.kind.groups(&self.plan)).find(|index| self.cannot_restore(*index))
     }
 
     /// Rebuilds the pieces of a group that are on the module, if there are any.
@@ -191,7 +181,7 @@ impl<F: Field> Refitting<'_, F> {
     fn restore<R: Rack>(&self, rack: &mut R)
         ensures { R.valid rack.old → R.valid rack.new × ((F.arithmetic self.now.field.now).order ≡ self.now.plan.order → GoesThrough (F.arithmetic self.now.field.now) (scheme_of self.now.plan) self.now.kind (flags self.now.out) self.now.«module» (groups (scheme_of self.now.plan) self.now.kind) (R.meaning rack.old) (R.meaning rack.new)) }
     {
-        for index in 0..groups_of(&self.plan, self.kind) {
+        for index in 0..self.kind.groups(&self.plan) {
             self.restore_group(rack, index);
         }
     }

@@ -9,7 +9,6 @@ ghost use Rattle.pool.specs.WordSteps.{Looked};
 ghost use Rattle.pool.specs.declared.kinds.Call.TheVariants.{Read, Write};
 
 use crate::adding::{Parities, add_parities, shares_of};
-use crate::groups::{parity_count, parity_slot};
 use crate::kinds::Phase;
 use crate::outs::outs;
 use crate::pool::Pool;
@@ -94,8 +93,8 @@ impl<F: Field, R: Rack> Pool<F, R> {
         let fetched = old.parities;
         let settled = Parities {
             first: plan.d2,
-            slot: parity_slot(&plan, kind, word.group(kind)),
-            count: parity_count(&plan, kind),
+            slot: kind.parity_slot(&plan, word.group(kind)),
+            count: kind.parities(&plan),
             fetched,
         };
         let change = self.field.sub(symbol, old.symbol);

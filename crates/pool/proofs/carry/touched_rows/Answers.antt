@@ -4,6 +4,7 @@ use Rattle.layout.specs.declared.plan.Plan.{Plan}
 use Rattle.coding.specs.Schemes.{scheme_of}
 use Rattle.pool.specs.Effects.{chunk_in}
 use Rattle.pool.proofs.Loading.{first_mark, more_marked, all_marked}
+use Rattle.coding.specs.Pieces.{slot_at}
 use Rattle.pool.proofs.carry.touched_rows.Goals as goal
 
 home_below : (plan : Plan) (i home : ℕ) → i < (scheme_of plan).stripes → home ≡ (scheme_of plan).home i → home < 14
@@ -29,7 +30,7 @@ bounds-touched-group c =
 
 pub loop-e-preserved : goal.loop-e-preserved
 loop-e-preserved c =
-    let slots : ℕ → ℕ = λ e. get_or c.args.group.now.slots e 0 in
+    let slots : ℕ → ℕ = λ e. slot_at c.args.group.now e in
     let e = c.loop-e.e in (
       length-set c.loop-e.touched (slots e) true ∙ c.loop-e.invariant.0,
       λ h lh. more_marked c.loop-e.touched (leb c.args.plan.now.r2 c.args.plan.now.r && eqb h c.args.home) slots e h

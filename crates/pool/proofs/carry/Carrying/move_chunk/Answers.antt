@@ -5,6 +5,7 @@ use Rattle.pool.specs.Effects.{chunks_at}
 use Rattle.pool.proofs.Gains.{stays, moves}
 use Rattle.pool.proofs.Loading.{row_below, slot_of_lem, home_below}
 use Rattle.pool.proofs.carry.Carrying.move_chunk.Goals as goal
+use Rattle.coding.specs.Pieces.{slot_at}
 
 pub add_shares-taken-requires : goal.add_shares-taken-requires
 add_shares-taken-requires g c =
@@ -34,6 +35,6 @@ returns g c =
     let p = scheme_of x.plan in
     let e = c.args.e in
     moves A L p x.group.index e (chunks_at p (g.R.Rack.meaning c.args.rack.now) c.args.offset)
-    x.plan.parity2_range.1 (layout.rows_le x.plan) (get_or x.group.slots e 0) (slot_of_lem A x c.args.self.now.loaded e c.requires) c.shares_at-shares.result (c.shares_at-shares.ensures v)
+    x.plan.parity2_range.1 (layout.rows_le x.plan) (slot_at x.group e) (slot_of_lem A x c.args.self.now.loaded e c.requires) c.shares_at-shares.result (c.shares_at-shares.ensures v)
     x.home c.args.self.now.loaded.home_is c.if-row-self.false c.negated.result c.negated.ensures
     c.args.gains c.add_shares-taken.result c.add_shares.result c.add_shares-taken.ensures c.add_shares.ensures

@@ -41,11 +41,11 @@ returns-then-is_staged g c =
     let old = c.args.old.symbol in
     let cell = c.args.word.cell in
     let slot = c.parity_slot.result in
-    let n = c.parity_count.result in
+    let n = c.parities.result in
     let change = c.sub-change.result in
     let shares = c.shares_of-shares.result in
     let meant = meant_of P A s j v old cell at c.settled-kind.result c.group.result slot n change shares c.settled-kind.ensures c.group.ensures.is
-    c.parity_slot.ensures c.parity_count.ensures c.sub-change.ensures.is c.shares_of-shares.ensures in
+    (c.parity_slot.ensures c.group.ensures.inside) c.parities.ensures c.sub-change.ensures.is c.shares_of-shares.ensures in
     let put = c.put.ensures held.rack_is_valid in
     let w = g.R.Rack.meaning c.put.new.self in
     let added = c.add_parities.ensures put.1
@@ -78,11 +78,11 @@ returns-else-is_staged g c =
     let old = c.args.old.symbol in
     let cell = c.args.word.cell in
     let slot = c.parity_slot.result in
-    let n = c.parity_count.result in
+    let n = c.parities.result in
     let change = c.sub-change.result in
     let shares = c.shares_of-shares.result in
     let meant = meant_of P A s j v old cell at c.settled-kind.result c.group.result slot n change shares c.settled-kind.ensures c.group.ensures.is
-    c.parity_slot.ensures c.parity_count.ensures c.sub-change.ensures.is c.shares_of-shares.ensures in
+    (c.parity_slot.ensures c.group.ensures.inside) c.parities.ensures c.sub-change.ensures.is c.shares_of-shares.ensures in
     let put = c.put.ensures held.rack_is_valid in
     let w = g.R.Rack.meaning c.put.new.self in
     let added = c.add_parities.ensures put.1

@@ -13,8 +13,8 @@ returns g c =
     let p = scheme_of s.plan in
     let n = groups p s.kind in
     let f : ℕ → Bool = λ i. holds_piece p s.kind s.module i && beyond p s.kind (flags s.out) i in
-    rw (← c.groups_of.ensures)
-    (lowest_is f c.groups_of.result c.find.result
-    (first_from_Range _ _ _ c.find.result (λ i. i < c.groups_of.result → f i ≡ true) (λ i. i < c.groups_of.result → f i ≡ false) c.find.ensures.ran
-    (λ i q k. λ l. let e : i < n → true ≡ f i = search rules in sym (e (rw (← c.groups_of.ensures) l)))
-    (λ i q k. (search rules, λ l. let e : i < n → false ≡ f i = search rules in sym (e (rw (← c.groups_of.ensures) l))))))
+    rw (← c.groups.ensures)
+    (lowest_is f c.groups.result c.find.result
+    (first_from_Range _ _ _ c.find.result (λ i. i < c.groups.result → f i ≡ true) (λ i. i < c.groups.result → f i ≡ false) c.find.ensures.ran
+    (λ i q k. λ l. let e : i < n → true ≡ f i = search rules in sym (e (rw (← c.groups.ensures) l)))
+    (λ i q k. (search rules, λ l. let e : i < n → false ≡ f i = search rules in sym (e (rw (← c.groups.ensures) l))))))

@@ -1,7 +1,0 @@
-use Rattle.std.proofs.Common.{arith}
-use Rattle.layout.proofs.OfPlan as layout
-use Rattle.coding.proofs.OfPlan as plan
-use Rattle.pool.proofs.groups.parity_slot.Goals as goal
-
-pub overflow_add-result : goal.overflow_add-result
-overflow_add-result c = omega (arith, layout.stripes_le c.args.plan.now, c.stripes.ensures, c.requires, plan.group_count_le c.args.plan.now c.args.kind)
