@@ -7,16 +7,19 @@ ghost use Rattle.field.specs.BinaryLaws.{byte_degree, byte_lawful, nibble_degree
 use crate::squares::times_powers;
 use crate::{Field, read};
 
-/// A polynomial that no others multiply to, so that the polynomials of lower degree, reduced by it, are a field.
+/// An irreducible polynomial over two elements. The polynomials of lower degree, with products reduced by it, are a field.
 pub trait Modulus {
     ghost DEGREE: { ℕ };
 
+    /// its degree
     const DEGREE: u16;
 
     ghost POLYNOMIAL: { ℕ };
 
+    /// the polynomial itself
     const POLYNOMIAL: u16;
 
+    // it has that degree, and gives a field
     ghost degree: { Degree DEGREE POLYNOMIAL };
 
     ghost lawful: { Lawful (reading (binary DEGREE POLYNOMIAL)) };
