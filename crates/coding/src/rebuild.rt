@@ -5,17 +5,11 @@ ghost use Rattle.coding.specs.Repairs.{Answers, Known, Side, Sides, Sources, Unk
 ghost use Rattle.coding.specs.Steps.{flags, scattered};
 
 use crate::parity::products;
-use crate::repair::{Pieces, Repair};
+use crate::repair::{GroupSymbols, Repair};
 use field::Field;
 use rack::rack::Rack;
+use rack::symbol;
 use std::array;
-
-/// The symbol at a place; 0 where there is none.
-fn symbol<R: Rack>(rack: &R, module: u16, slot: u16, offset: u16) -> u16
-    ensures { R.valid rack.now → result ≡ (R.meaning rack.now).symbol «module» slot offset }
-{
-    rack.get(module, slot, offset).unwrap_or(0)
-}
 
 /// The array `start`, with the first `n` of the values in their places.
 fn scatter<T: Copy + Drop, const N: usize>(
@@ -124,7 +118,7 @@ impl Repair {
 
     /// The symbols of the group's pieces at an offset. The chunks that are left are as the rack has them, and those that are
     /// missing follow from the equations of the parities. Each symbol is fetched once.
-    pub fn pieces_at<F: Field, R: Rack>(&self, field: &F, rack: &R, offset: u16) -> Pieces
+    pub fn pieces_at<F: Field, R: Rack>(&self, field: &F, rack: &R, offset: u16) -> GroupSymbols
         ensures chunks { R.valid rack.now → (R.meaning rack.now).order ≡ (F.arithmetic field.now).order → Answers (F.arithmetic field.now) self.now (R.meaning rack.now) offset result.chunks }
         ensures parities { R.valid rack.now → Uses (F.arithmetic field.now) self.now (R.meaning rack.now) offset result.parities }
     {
@@ -132,7 +126,7 @@ impl Repair {
         let symbols = self.sources_at(rack, offset);
         let sides = self.sides(field, known, symbols);
         let unknowns = self.unknowns(field, sides);
-        Pieces {
+        GroupSymbols {
             chunks: self.joined(known, unknowns),
             parities: self.numbered(symbols),
         }

@@ -33,7 +33,7 @@ pub struct Repair {
 
 /// The symbols of a group's pieces at one offset.
 #[derive(Clone, Copy)]
-pub struct Pieces {
+pub struct GroupSymbols {
     /// those of its chunks, in their order, and zeros after them
     pub chunks: [u16; 14],
     /// those of the parities that were fetched to rebuild its missing chunks, by the numbers of the parities

@@ -6,18 +6,16 @@ use Rattle.layout.specs.declared.plan.Plan.{Plan}
 use Rattle.layout.specs.declared.refusal.Refusal.{Refusal}
 use Rattle.rack.specs.Meaning.{Meaning}
 use Rattle.coding.specs.Schemes.{Scheme, scheme_of}
-use Rattle.coding.proofs.OfPlan as plan
 use Rattle.pool.specs.declared.kinds.Phase.{Phase}
 use Rattle.pool.specs.declared.kinds.Phase.TheVariants.{Before, UnderWay, Voided, After}
 use Rattle.pool.specs.declared.kinds.Call.{Call}
 use Rattle.pool.specs.declared.kinds.Call.TheVariants.{Carry}
-use Rattle.pool.specs.Replies.{Answer}
 use Rattle.pool.specs.declared.kinds.Reply.TheVariants.{Carried}
 use Rattle.pool.specs.declared.pool.Pool.{Pool}
 use Rattle.pool.specs.Book.{refusal, refuse_if, under_way_refusal, carried_data, carried_parities}
 use Rattle.layout.specs.declared.refusal.Refusal.TheVariants.{WrongCount}
-use Rattle.pool.specs.Standing.{Standing, out_of, Kept}
-use Rattle.pool.specs.Effects.{changed, carried_symbol, Does}
+use Rattle.pool.specs.Standing.{Standing, out_of}
+use Rattle.pool.specs.Effects.{changed, carried_symbol}
 use Rattle.pool.specs.declared.load.Load.{Load}
 use Rattle.pool.specs.Growth.{Loaded, Whole, LoadOf}
 use Rattle.pool.specs.Pools.{standing, Held, Called}

@@ -1,21 +1,17 @@
 -- A write that is made keeps what it promises. Assumes nothing.
-use Rattle.std.proofs.Common.{◌≡◌, ℕ, ◌<◌, leb, Some, None, Ok, sym, refl, ap, ◌∙◌, subst}
+use Rattle.std.proofs.Common.{◌≡◌, ℕ, ◌<◌, leb, Some, None, Ok, refl, ap, ◌∙◌}
 use Rattle.std.proofs.lemmas.Bool.{lt-leb, cond-false}
-use Rattle.layout.specs.declared.plan.Plan.{Plan}
 use Rattle.field.specs.Arithmetic.{Arithmetic, Lawful}
 use Rattle.rack.specs.Meaning.{Meaning}
 use Rattle.coding.specs.Schemes.{Scheme, scheme_of}
-use Rattle.coding.proofs.OfPlan.{sound}
-use Rattle.pool.specs.declared.kinds.Call.{Call}
 use Rattle.pool.specs.declared.kinds.Call.TheVariants.{Write}
-use Rattle.pool.specs.Replies.{Answer}
 use Rattle.pool.specs.declared.kinds.Reply.TheVariants.{Done}
 use Rattle.pool.specs.declared.pool.Pool.{Pool}
 use Rattle.pool.specs.declared.words.Found.{Found}
 use Rattle.layout.specs.declared.refusal.Refusal.TheVariants.{NoWord, NoSymbol}
 use Rattle.pool.specs.Book.{refusal}
-use Rattle.pool.specs.Standing.{Standing, out_of, Kept}
-use Rattle.pool.specs.Effects.{changed, holding, written_symbol, Does}
+use Rattle.pool.specs.Standing.{Standing, out_of}
+use Rattle.pool.specs.Effects.{changed, holding, written_symbol}
 use Rattle.pool.specs.Pools.{standing, Held, Called}
 use Rattle.pool.specs.WordSteps.{Looked}
 use Rattle.pool.specs.WordCalls.{Wrote}

@@ -87,7 +87,10 @@ impl<F: Field, R: Rack> Pool<F, R> {
         ensures { Held F.arithmetic R.valid R.meaning self.old → symbol < (F.arithmetic self.old.field).order → Looked (F.arithmetic self.old.field) (scheme_of word.plan) (standing F.arithmetic R.valid R.meaning self.old) word.chunk word.offset (Ok old) → Wrote F.arithmetic R.valid R.meaning self.old self.new word.chunk word.offset symbol old.symbol }
     {
         let Word {
-            plan, cell, offset, ..
+            plan,
+            cell,
+            offset,
+            ..
         } = word;
         let kind = self.phase.settled();
         let fetched = old.parities;

@@ -1,4 +1,4 @@
-use Rattle.std.proofs.Common.{◌≡◌, ℕ, ◌<◌, true, false, ◌&&◌, eqb, leb, get_or, replicate, ◌∙◌, arith, length-set}
+use Rattle.std.proofs.Common.{◌≡◌, ℕ, ◌<◌, true, false, ◌&&◌, eqb, leb, replicate, ◌∙◌, arith, length-set}
 use Rattle.layout.proofs.OfPlan as layout
 use Rattle.layout.specs.declared.plan.Plan.{Plan}
 use Rattle.coding.specs.Schemes.{scheme_of}

@@ -1,4 +1,4 @@
-use Rattle.std.proofs.Common.{◌≡◌, ℕ, ◌<◌, get_or}
+use Rattle.std.proofs.Common.{◌≡◌, ℕ, ◌<◌}
 use Rattle.pool.proofs.refit.has_chunk.Given as goal
 use Rattle.coding.specs.Pieces.{module_at}
 

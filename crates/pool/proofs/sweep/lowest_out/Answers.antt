@@ -1,4 +1,4 @@
-use Rattle.std.proofs.Common.{◌≡◌, ℕ, ◌<◌, Bool, true, false, not, refl, sym, ap, ◌∙◌, rules}
+use Rattle.std.proofs.Common.{◌≡◌, ℕ, ◌<◌, Bool, true, false, not, sym, ap, ◌∙◌, rules}
 use Rattle.std.proofs.lemmas.Iterator.{first_from_Range}
 use Rattle.rack.specs.Meaning.{pulls}
 use Rattle.pool.proofs.Asking.{asked}

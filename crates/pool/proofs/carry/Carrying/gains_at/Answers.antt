@@ -1,9 +1,7 @@
 use Rattle.std.proofs.Common.{◌≡◌, ℕ, ◌+◌, arith}
-use Rattle.layout.proofs.OfPlan as layout
 use Rattle.coding.specs.Schemes.{scheme_of}
 use Rattle.pool.specs.Effects.{chunks_at}
 use Rattle.pool.proofs.Gains.{gains_begun, gains_more, gains_all}
-use Rattle.pool.proofs.Loading.{home_below}
 use Rattle.pool.proofs.carry.Carrying.gains_at.Goals as goal
 
 pub loop-e-init : goal.loop-e-init

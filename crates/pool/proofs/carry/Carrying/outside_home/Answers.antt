@@ -1,4 +1,4 @@
-use Rattle.std.proofs.Common.{ℕ, Bool, true, false, not, eqb, get_or, sym, ap, ◌∙◌, add-zero, arith}
+use Rattle.std.proofs.Common.{ℕ, Bool, true, false, not, eqb, sym, ap, ◌∙◌, add-zero, arith}
 use Rattle.std.proofs.lemmas.Bool.{eq-eqb, ne_eqb}
 use Rattle.pool.proofs.Loading.{count_step}
 use Rattle.pool.proofs.carry.Carrying.outside_home.Goals as goal

@@ -1,4 +1,4 @@
-use Rattle.std.proofs.Common.{◌≡◌, ◌≤◌, not, eqb, get_or}
+use Rattle.std.proofs.Common.{◌≡◌, ◌≤◌, not, eqb}
 use Rattle.coding.specs.Groups.{count}
 use Rattle.coding.specs.Pieces.{slot_at}
 use Rattle.pool.proofs.carry.Carrying.outside_home.Given as goal

@@ -1,4 +1,4 @@
-use Rattle.std.proofs.Common.{ℕ, ◌<◌, Ok, sym, subst, arith}
+use Rattle.std.proofs.Common.{ℕ, ◌<◌, Ok, subst, arith}
 use Rattle.layout.specs.declared.plan.Plan.{Plan}
 use Rattle.coding.specs.Schemes.{scheme_of}
 use Rattle.pool.specs.declared.kinds.Call.TheVariants.{Write}

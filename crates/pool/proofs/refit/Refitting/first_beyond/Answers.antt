@@ -1,9 +1,9 @@
-use Rattle.std.proofs.Common.{◌≡◌, ℕ, ◌<◌, Bool, true, false, ◌&&◌, sym, subst, ◌∙◌, rules}
+use Rattle.std.proofs.Common.{◌≡◌, ℕ, ◌<◌, Bool, true, false, ◌&&◌, sym, rules}
 use Rattle.std.proofs.lemmas.Iterator.{first_from_Range}
 use Rattle.coding.specs.Groups.{groups}
 use Rattle.coding.specs.Schemes.{scheme_of}
 use Rattle.coding.specs.Steps.{flags}
-use Rattle.pool.specs.Book.{holds_piece, beyond, lowest}
+use Rattle.pool.specs.Book.{holds_piece, beyond}
 use Rattle.pool.proofs.Sweeps.{lowest_is}
 use Rattle.pool.proofs.refit.Refitting.first_beyond.Goals as goal
 
