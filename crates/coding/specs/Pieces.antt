@@ -1,5 +1,5 @@
 -- What the pieces of a group are, one by one. Assumes nothing.
-use Rattle.std.specs.Prelude.{◌≡◌, ℕ, ◌<◌, ◌≤◌, List, slice_index, slice_index_or}
+use Rattle.std.specs.Prelude.{◌≡◌, ℕ, ◌<◌, ◌≤◌, List, length, slice_index, slice_index_or}
 use Rattle.field.specs.Arithmetic.{Arithmetic}
 use Rattle.field.specs.Sums.{coefficient}
 use Rattle.layout.specs.declared.plan.Cell.{Cell}
@@ -44,6 +44,7 @@ pub record Grouped (p : Scheme) (t : Kind) (i : ℕ) (g : Group) : Type 0 where
   pub parities_is : g.parities ≡ parities p t
   pub slot_is : g.slot ≡ slot_of p t i
   pub first_is : g.first ≡ p.d'
+  pub long : length g.pieces ≡ 14
   pub modules_are : (e : ℕ) → e < size p t → module_at g e ≡ p.column (chunk_of p t i e)
   pub slots_are : (e : ℕ) → e < size p t → slot_at g e ≡ p.row (chunk_of p t i e)
   pub xs_are : (e : ℕ) → e < size p t → x_at g e ≡ p.x (chunk_of p t i e)

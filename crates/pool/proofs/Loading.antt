@@ -1,17 +1,19 @@
 -- What is known of a stripe that is carried. Assumes nothing.
-use Rattle.std.proofs.Common.{◌≡◌, ℕ, zero, suc, ◌+◌, ◌*◌, ◌<◌, ◌≤◌, Bool, true, false, cond, not, ◌&&◌, ◌||◌, eqb, leb, ◌≢◌, List, [], length, get_or, set, replicate, sym, refl, ap, ◌∙◌, add-one, arith, get_or-set_other, get_or-set_same}
+use Rattle.std.proofs.Common.{◌≡◌, ℕ, zero, suc, ◌+◌, ◌*◌, ◌<◌, ◌≤◌, Bool, true, false, cond, not, ◌&&◌, ◌||◌, eqb, leb, ◌≢◌, List, [], length, get_or, set, replicate, sym, refl, ap, ◌∙◌, add-one, arith, get_or-set_other, get_or-set_same, take, length-take-le}
 use mathlib.Core.Logic.{by_cases}
 use native.Mathlib.Decide.{ℕ_discrete}
 use lib.ListN.{get_or-replicate}
 use Rattle.std.proofs.lemmas.Bool.{and_right, or_from, or_left, or_right, le-leb, eq-eqb, ne_eqb, cond-true}
+use Rattle.std.proofs.lemmas.List.{get_or-take}
 use Rattle.field.specs.Arithmetic.{Arithmetic}
 use Rattle.field.specs.Sums.{coefficient}
 use Rattle.layout.proofs.OfPlan as layout
 use Rattle.rack.specs.Meaning.{Meaning}
 use Rattle.coding.specs.Schemes.{Scheme, scheme_of}
 use Rattle.coding.specs.Groups.{share, count}
-use Rattle.coding.specs.Pieces.{Grouped, module_at, slot_at}
+use Rattle.coding.specs.Pieces.{Grouped, module_at, slot_at, no_piece}
 use Rattle.coding.specs.declared.group.Group.{Group}
+use Rattle.coding.specs.declared.group.Piece.{Piece}
 use Rattle.coding.specs.declared.group.Kind.TheVariants.{Stripe}
 use Rattle.coding.proofs.Counting.{count_same}
 use Rattle.pool.specs.Book.{carried_data, carried_parities}
@@ -64,6 +66,18 @@ module _ (A : Arithmetic) (x : Load) (h : Loaded A x) where
       s ≡ w.symbol (module_at x.group e) (slot_at x.group e) u → a ≡ share A (scheme_of x.plan) k (chunk e) (chunks_at (scheme_of x.plan) w u (chunk e))
   shares_are w k e u a s lk l is from =
       is ∙ share_is k e s lk l ∙ ap (λ (z : ℕ). share A (scheme_of x.plan) k (chunk e) z) (from ∙ chunk_symbol w e u l)
+
+-- the first n pieces of a group, one by one
+pub record FirstSlots (g : Group) (n : ℕ) : Type 0 where
+  pub long : length (take n g.pieces) ≡ n
+  pub at : (e : ℕ) → e < n → (get_or (take n g.pieces) e no_piece).slot ≡ slot_at g e
+
+pub first_slots : (g : Group) → length g.pieces ≡ 14 → (n : ℕ) → n ≡ g.size → g.size ≤ 14 → FirstSlots g n
+first_slots g whole n is short =
+    record {
+      long = length-take-le n g.pieces (omega (arith, whole, is, short));
+      at = λ e l. ap (λ (q : Piece). q.slot) (get_or-take n g.pieces e no_piece l);
+    }
 
 -- one more number is counted, or not
 pub count_step : (f : ℕ → Bool) (e n m : ℕ) (b : Bool) → f e ≡ b → n ≡ count f e → m ≡ n + cond b 1 0 → m ≡ count f (e + 1)

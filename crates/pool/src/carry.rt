@@ -71,9 +71,8 @@ fn touched_rows(plan: &Plan, group: &Group, home: u16) -> [bool; 14]
 {
     let mut touched = [false; 14];
     touched[home as usize] = plan.r2 <= plan.r;
-    // by index: no proof knows how long the array of pieces in a struct is, so one that goes over its elements does not close
-    for e in 0..usize::from(group.size) {
-        touched[group.pieces[e].slot as usize] = true;
+    for piece in &group.pieces[..usize::from(group.size)] {
+        touched[usize::from(piece.slot)] = true;
     }
     touched
 }
@@ -216,6 +215,7 @@ impl<'a, F: Field> Carrying<'a, F> {
         ensures { Grows R.valid R.meaning (F.arithmetic self.now.field.now) (scheme_of self.now.load.plan) rack.old rack.new offset (stripe_gain (F.arithmetic self.now.field.now) (scheme_of self.now.load.plan) self.now.load.group.index (R.meaning rack.old) offset) }
     {
         let gains = self.gains_at(rack, offset);
+        // row is the number of a row as well as an index
         for row in 0..self.load.rows {
             if self.load.touched[row as usize] {
                 self.add_to_row(rack, row, offset, gains[row as usize]);
@@ -237,9 +237,8 @@ impl<'a, F: Field> Carrying<'a, F> {
         ensures { result ≡ count (λ e. not (slot_at self.now.load.group e == self.now.load.home)) self.now.load.group.size }
     {
         let mut n = 0;
-        // by index, as in `touched_rows`
-        for e in 0..usize::from(self.load.group.size) {
-            if self.load.group.pieces[e].slot != self.load.home {
+        for piece in &self.load.group.pieces[..usize::from(self.load.group.size)] {
+            if piece.slot != self.load.home {
                 n += 1;
             }
         }

@@ -27,6 +27,7 @@ returns c =
       parities_is = c.parities.ensures;
       slot_is = c.parity_slot.ensures s.inside;
       first_is = refl;
+      long = long;
       modules_are = λ e h. (at e (omega arith)).module_is h;
       slots_are = λ e h. (at e (omega arith)).slot_is h;
       xs_are = λ e h. (at e (omega arith)).x_is h;

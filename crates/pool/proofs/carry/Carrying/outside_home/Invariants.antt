@@ -3,5 +3,5 @@ use Rattle.coding.specs.Groups.{count}
 use Rattle.coding.specs.Pieces.{slot_at}
 use Rattle.pool.proofs.carry.Carrying.outside_home.Given as goal
 
-abbrev pub invariant-loop-e : goal.invariant-loop-e
-invariant-loop-e g l = (l.n ≤ l.e) × (l.n ≡ count (λ e. not (eqb (slot_at l.self.load.group e) l.self.load.home)) l.e)
+abbrev pub invariant-loop-piece : goal.invariant-loop-piece
+invariant-loop-piece g l = (l.n ≤ l.piece-index) × (l.n ≡ count (λ e. not (eqb (slot_at l.self.load.group e) l.self.load.home)) l.piece-index)
