@@ -1,4 +1,6 @@
 // The commands of a script.
+ghost use Rattle.std.specs.Prelude.{◌≡◌};
+
 use pool::kinds::Call;
 
 /// A command of a script.
@@ -24,6 +26,28 @@ pub enum Command {
     Show,
     /// shows the label of the pool
     PoolLabel,
+}
+
+impl Command {
+    ghost use Rattle.script.specs.Script.{of_pools};
+
+    /// Whether this is a command of pools, and none of plans, labels and racks.
+    pub fn is_of_pools(&self) -> bool
+        ensures { result ≡ of_pools self.now }
+    {
+        match self {
+            Command::Plan(..)
+            | Command::Map
+            | Command::Label(_)
+            | Command::Rack(..)
+            | Command::OnRack(_) => false,
+            Command::Lay(_)
+            | Command::Open(..)
+            | Command::OnPool(_)
+            | Command::Show
+            | Command::PoolLabel => true,
+        }
+    }
 }
 
 /// The three fields.
