@@ -1,7 +1,7 @@
 pub mod Joins
 pub mod Labels
 pub mod Printing
-pub mod Plays
+pub mod Blanks
 pub mod Plans
 pub mod Calling
 pub mod Parts

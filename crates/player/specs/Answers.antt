@@ -11,7 +11,6 @@ use Rattle.script.specs.declared.command.FieldKind.{FieldKind}
 use Rattle.script.specs.declared.command.FieldKind.TheVariants.{Byte, Nibble, Prime}
 use Rattle.script.specs.declared.command.RackCall.{RackCall}
 use Rattle.script.specs.declared.command.RackCall.TheVariants.{Get, Put, Pull, Fit, Ask}
-use Rattle.script.specs.Script.{Writes}
 use Rattle.field.specs.Arithmetic.{Arithmetic}
 use Rattle.field.specs.Binary.{byte, nibble}
 use Rattle.field.specs.Prime.{prime}
@@ -158,8 +157,13 @@ Responds b (OnPool c) e text = CallsPool b c b.memory e text
 Responds b Show e text = Says b (pool_text b.memory standing_text) e text
 Responds b PoolLabel e text = Says b (pool_text b.memory pool_label_text) e text
 
--- a line answers as its command does; one that writes no command changes nothing
-abbrev pub Answers : State → List ℕ → State → List ℕ → Type 0
-Answers b line e text =
-    ((c : Command) × Writes line c × Responds b c e text)
-    ⊎ (((c : Command) → Writes line c → ⊥) × Says b (codes "not understood") e text)
+-- what is read of a line, a command or none, answers as the command does; where no command is written nothing changes
+abbrev pub Replies : State → Option Command → State → List ℕ → Type 0
+Replies b (Some c) e text = Responds b c e text
+Replies b None e text = Says b (codes "not understood") e text
+
+-- a line answers as its command does, by which lines write which commands; one that writes no command changes nothing
+abbrev pub Answers : (List ℕ → Command → Type 0) → State → List ℕ → State → List ℕ → Type 0
+Answers writes b line e text =
+    ((c : Command) × writes line c × Responds b c e text)
+    ⊎ (((c : Command) → writes line c → ⊥) × Says b (codes "not understood") e text)

@@ -1,7 +1,6 @@
 -- What a script acts on, as the program holds it. Assumes nothing.
 use Rattle.std.specs.Prelude.{◌≡◌, ℕ, true, List, ◌++◌, IfSome, Some, None, Ok, Err, codes, decimal, Option, Result, MatchOption}
 use Rattle.field.specs.Arithmetic.{Arithmetic}
-use Rattle.layout.specs.declared.label.Label.{Label}
 use Rattle.layout.specs.declared.plan.Plan.{Plan}
 use Rattle.layout.specs.declared.refusal.Refusal.{Refusal}
 use Rattle.rack.specs.Laid.{fair, unless}
@@ -17,12 +16,15 @@ use Rattle.script.specs.declared.command.FieldKind.{FieldKind}
 use Rattle.player.specs.declared.racks.Outcome.{Outcome}
 use Rattle.player.specs.declared.racks.Outcome.TheVariants.{Symbol, Nothing, Done, NothingDone, Fitted, Out, NoRack}
 use Rattle.player.specs.declared.request.RackRequest.{RackRequest}
+use Rattle.player.specs.declared.request.By.{By}
+use Rattle.player.specs.declared.request.By.TheVariants as by
 use Rattle.player.specs.declared.request.Start.{Start}
-use Rattle.player.specs.declared.request.Start.TheVariants.{Lay, Open}
+use Rattle.player.specs.declared.request.Wanted.{Wanted}
+use Rattle.player.specs.declared.request.Wanted.TheVariants.{Lay, Open}
 use Rattle.player.specs.declared.request.Request.{Request}
 use Rattle.player.specs.declared.request.Request.TheVariants as request
 use Rattle.player.specs.Texts.{refused_text}
-use Rattle.player.specs.Answers.{Memory, nothing, bare, pooled, rack_in, arithmetic_of, blank_rack, opened_over}
+use Rattle.player.specs.Answers.{Memory, nothing, bare, pooled, rack_in, arithmetic_of, blank_rack, label_bytes, opened_over}
 
 abbrev pub outcome_text : Outcome → List ℕ
 outcome_text (Symbol v) = codes "ok " ++ decimal v
@@ -48,9 +50,12 @@ module _ {F R : Type 0} (arithmetic : F → Arithmetic) (valid : R → Type 0) (
   within x = pooled (arithmetic x.field) x.plan (standing arithmetic valid meaning x)
 
 -- the pool that a line starts over the rack in use
+abbrev pub started_over : Arithmetic → By → Meaning → Memory
+started_over A (by.Plan p) w = pooled A p (laid_over p w)
+started_over A (by.Label m) w = pooled A m.plan (opened_over m w)
+
 abbrev pub started : Start → Meaning → Memory
-started (Lay f p) w = pooled (arithmetic_of f) p (laid_over p w)
-started (Open f m) w = pooled (arithmetic_of f) m.plan (opened_over m w)
+started s w = started_over (arithmetic_of s.field) s.by w
 
 abbrev pub started_on : Start → Option Meaning → Memory
 started_on s None = nothing
@@ -62,10 +67,13 @@ memory_by None m = m
 memory_by (Some (request.Rack q)) m = bare (blank_rack q.order q.modules q.slots q.length)
 memory_by (Some (request.Pool s)) m = started_on s (rack_in m)
 
--- a start that the check does not refuse
+-- a start over a field of order q that the check does not refuse
+abbrev pub Fits : By → ℕ → Meaning → Type 0
+Fits (by.Plan p) q w = lay_refusal p q w ≡ None
+Fits (by.Label m) q w = fit_refusal m.plan q w ≡ None
+
 abbrev pub Startable : Start → Meaning → Type 0
-Startable (Lay f p) w = lay_refusal p (arithmetic_of f).order w ≡ None
-Startable (Open f m) w = fit_refusal m.plan (arithmetic_of f).order w ≡ None
+Startable s w = Fits s.by (arithmetic_of s.field).order w
 
 -- what is asked for can be had: a rack has its numbers in their bounds, a pool has a rack that fits it
 abbrev pub Possible : Option Request → Option Meaning → Type 0
@@ -77,23 +85,6 @@ Possible (Some (request.Pool s)) o = MatchOption o ⊥ (Startable s)
 abbrev pub Left : {R : Type 0} → (R → Type 0) → (R → Meaning) → R → Option Request → Type 0
 Left valid meaning x r = valid x × Possible r (Some (meaning x))
 
--- nothing is asked for but a rack that can be made
-abbrev pub Racks : Option Request → Type 0
-Racks None = Unit {0}
-Racks (Some (request.Rack q)) = fair q.order q.modules q.slots q.length ≡ true
-Racks (Some (request.Pool s)) = ⊥
-
--- the pool that is asked for, and the rack
-abbrev pub pool_in : Option Request → Option Start
-pool_in None = None
-pool_in (Some (request.Rack q)) = None
-pool_in (Some (request.Pool s)) = Some s
-
-abbrev pub rack_asked : Option Request → Option RackRequest
-rack_asked None = None
-rack_asked (Some (request.Rack q)) = Some q
-rack_asked (Some (request.Pool s)) = None
-
 -- what a line that sets the plan leaves and answers
 abbrev pub PlanSet : Option Plan → Result Plan Refusal → Option Plan → List ℕ → Type 0
 PlanSet old (Ok p) new text = (new ≡ Some p) × (text ≡ codes "ok")
@@ -104,20 +95,29 @@ abbrev pub RackAsked : RackRequest → Option Request → List ℕ → Type 0
 RackAsked q r text =
     MatchOption (unless (fair q.order q.modules q.slots q.length)) ((r ≡ Some (request.Rack q)) × (text ≡ codes "ok")) (λ e. (r ≡ None) × (text ≡ refused_text e))
 
--- what a line that lays a pool asks and answers
-abbrev pub LayAnswered : Option Plan → FieldKind → Option Meaning → Option Request → List ℕ → Type 0
-LayAnswered None f o r text = (r ≡ None) × (text ≡ codes "no plan")
-LayAnswered (Some p) f None r text = (r ≡ None) × (text ≡ codes "no rack")
-LayAnswered (Some p) f (Some w) r text =
-    MatchOption (lay_refusal p (arithmetic_of f).order w) ((r ≡ Some (request.Pool (Lay f p))) × (text ≡ codes "ok")) (λ e. (r ≡ None) × (text ≡ refused_text e))
+-- why a pool is refused that a line wants over a field of order q and a rack
+abbrev pub wanted_refusal : Wanted → ℕ → Meaning → Option Refusal
+wanted_refusal (Lay p) q w = lay_refusal p q w
+wanted_refusal (Open bytes) q w = open_refusal (label_bytes bytes) q w
 
--- what a line that opens a pool asks and answers
-abbrev pub OpenAnswered : FieldKind → List ℕ → Option Meaning → Option Request → List ℕ → Type 0
-OpenAnswered f bytes None r text = (r ≡ None) × (text ≡ codes "no rack")
-OpenAnswered f bytes (Some w) r text =
-    MatchOption (open_refusal bytes (arithmetic_of f).order w)
-    ((m : Label) × (bytes ≡ label_of m) × (fit_refusal m.plan (arithmetic_of f).order w ≡ None) × (r ≡ Some (request.Pool (Open f m))) × (text ≡ codes "ok"))
+-- what starts the pool that a line wants: its plan, or the label that its bytes are
+abbrev pub Starts : Wanted → By → Type 0
+Starts (Lay p) (by.Plan p') = p' ≡ p
+Starts (Lay p) (by.Label m) = ⊥
+Starts (Open bytes) (by.Plan p) = ⊥
+Starts (Open bytes) (by.Label m) = label_bytes bytes ≡ label_of m
+
+-- what a line that wants a pool asks and answers
+abbrev pub PoolAsked : FieldKind → Wanted → Option Meaning → Option Request → List ℕ → Type 0
+PoolAsked f x None r text = (r ≡ None) × (text ≡ codes "no rack")
+PoolAsked f x (Some w) r text =
+    MatchOption (wanted_refusal x (arithmetic_of f).order w)
+    ((y : By) × Starts x y × Fits y (arithmetic_of f).order w × (r ≡ Some (request.Pool (record { field = f; by = y }))) × (text ≡ codes "ok"))
     (λ e. (r ≡ None) × (text ≡ refused_text e))
+
+abbrev pub LayAsked : Option Plan → FieldKind → Option Meaning → Option Request → List ℕ → Type 0
+LayAsked None f o r text = (r ≡ None) × (text ≡ codes "no plan")
+LayAsked (Some p) f o r text = PoolAsked f (Lay p) o r text
 
 -- the call on a pool that a command is
 abbrev pub call_in : Option Command → Option Call
@@ -132,3 +132,16 @@ call_in (Some (command.Open f bytes)) = None
 call_in (Some (command.OnPool c)) = Some c
 call_in (Some command.Show) = None
 call_in (Some command.PoolLabel) = None
+
+-- a command that is answered alike whether a pool has the rack or none has
+abbrev pub IsAlike : Command → Type 0
+IsAlike (command.Plan q d r d' r' L) = Unit {0}
+IsAlike command.Map = Unit {0}
+IsAlike (command.Label flag) = Unit {0}
+IsAlike (command.Rack kind q m s n) = Unit {0}
+IsAlike (command.OnRack c) = ⊥
+IsAlike (command.Lay f) = Unit {0}
+IsAlike (command.Open f bytes) = Unit {0}
+IsAlike (command.OnPool c) = ⊥
+IsAlike command.Show = ⊥
+IsAlike command.PoolLabel = ⊥

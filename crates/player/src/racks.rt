@@ -1,5 +1,5 @@
 // Calls on the rack in use.
-ghost use Rattle.std.specs.Prelude.{◌≡◌, IfOk, string_bytes};
+ghost use Rattle.std.specs.Prelude.{◌≡◌};
 ghost use Rattle.rack.specs.Laid.{fair, unless};
 ghost use Rattle.player.specs.Answers.{called_text, called, rack_text, rack_after};
 ghost use Rattle.player.specs.Holding.{alone, outcome_text, Ready};
@@ -8,7 +8,7 @@ ghost use Rattle.std.specs.Option.{option_map};
 use layout::refusal::{Layer, Refusal};
 use rack::Rack;
 use script::command::RackCall;
-use std::alloc::{AllocError, Global};
+use std::fmt;
 
 /// What a call on the rack came to.
 #[derive(Clone, Copy, PartialEq, Eq, Debug)]
@@ -72,18 +72,22 @@ pub fn on_rack_in_use<R: Rack>(rack: &mut Option<R>, call: RackCall) -> Outcome
     }
 }
 
-/// The text of an outcome.
-pub fn outcome_text(heap: Global, outcome: Outcome) -> Result<String, AllocError>
-    ensures { IfOk result (λ s. string_bytes s ≡ outcome_text outcome) }
-{
-    match outcome {
-        Outcome::Symbol(v) => format!(in heap; "ok {v}"),
-        Outcome::Nothing => String::from_str(heap, "nothing"),
-        Outcome::Done => String::from_str(heap, "done"),
-        Outcome::NothingDone => String::from_str(heap, "nothing done"),
-        Outcome::Fitted => String::from_str(heap, "fitted"),
-        Outcome::Out => String::from_str(heap, "out"),
-        Outcome::NoRack => String::from_str(heap, "no rack"),
+impl fmt::Display for Outcome {
+    ghost use Rattle.std.specs.Prelude.{Some};
+    ghost use Rattle.player.specs.Holding.{outcome_text};
+
+    ghost output = { λ o. Some (outcome_text o) };
+
+    fn fmt<W: fmt::Write>(&self, f: &mut fmt::Formatter<W>) -> fmt::Result {
+        match self {
+            Outcome::Symbol(symbol) => write!(f, "ok {symbol}"),
+            Outcome::Nothing => f.write_str("nothing"),
+            Outcome::Done => f.write_str("done"),
+            Outcome::NothingDone => f.write_str("nothing done"),
+            Outcome::Fitted => f.write_str("fitted"),
+            Outcome::Out => f.write_str("out"),
+            Outcome::NoRack => f.write_str("no rack"),
+        }
     }
 }
 

@@ -1,5 +1,5 @@
 use Rattle.std.proofs.Common.{◌+◌, [], ◌∷◌, length, get_or, vec_items, ap, ◌∙◌, length-append}
-use Rattle.player.proofs.Plays.{in_order}
+use Rattle.player.proofs.Blanks.{in_order}
 use Rattle.player.proofs.transcript.ordered.Goals as goal
 
 pub loop-page-preserved : goal.loop-page-preserved
