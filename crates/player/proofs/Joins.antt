@@ -1,6 +1,8 @@
 -- Texts that are made longer piece by piece. Assumes nothing.
-use Rattle.std.proofs.Common.{◌≡◌, ℕ, ◌+◌, ◌/◌, ◌%◌, ◌<◌, ◌≤◌, List, [], ◌∷◌, ◌++◌, length, get_or, take, sym, refl, ap, ◌∙◌, append_assoc, append-nil, add-one, take_all, take-suc}
+use Rattle.std.proofs.Common.{rules, Fits, w8, ◌≡◌, ℕ, ◌+◌, ◌-◌, ◌^◌, false, Some, ◌/◌, ◌%◌, ◌<◌, ◌≤◌, List, [], ◌∷◌, ◌++◌, length, get_or, take, sym, refl, ap, ◌∙◌, append_assoc, append-nil, add-one, take_all, take-suc}
 use Rattle.std.specs.Char.{digit_char}
+use Rattle.std.specs.Fmt.{padded_integral, format_spec, digits}
+use Rattle.std.proofs.lemmas.Fmt.{hex_byte}
 use Rattle.player.specs.Texts.{each, hex_text}
 
 pub two : {A : Type 0} (s t u a b : List A) → t ≡ s ++ a → u ≡ t ++ b → u ≡ s ++ (a ++ b)
@@ -14,13 +16,16 @@ hex_append [] ys = refl
 hex_append (x ∷ xs) ys = ap (λ l. 32 ∷ digit_char (x / 16) ∷ digit_char (x % 16) ∷ l) (hex_append xs ys)
 
 -- a loop that writes the bytes one after the other
-pub hex_more : (bs : List ℕ) (i : ℕ) (s t u : List ℕ) → i < length bs → t ≡ s ++ hex_text (take i bs) → u ≡ t ++ hex_text (get_or bs i 0 ∷ []) → u ≡ s ++ hex_text (take (i + 1) bs)
-hex_more bs i s t u h p q =
-    two s t u (hex_text (take i bs)) (hex_text (get_or bs i 0 ∷ [])) p q
-    ∙ ap (λ l. s ++ l) (sym (hex_append (take i bs) (get_or bs i 0 ∷ [])) ∙ ap hex_text (rw (add-one i) (sym (take-suc bs i 0 h))))
+pub hex_more : (bs : List ℕ) (i : ℕ) → i < length bs → hex_text (take i bs) ++ hex_text (get_or bs i 0 ∷ []) ≡ hex_text (take (i + 1) bs)
+hex_more bs i h = sym (hex_append (take i bs) (get_or bs i 0 ∷ [])) ∙ ap hex_text (rw (add-one i) (sym (take-suc bs i 0 h)))
 
-pub hex_all : (bs : List ℕ) (i : ℕ) (s t : List ℕ) → length bs ≤ i → t ≡ s ++ hex_text (take i bs) → t ≡ s ++ hex_text bs
-hex_all bs i s t h p = p ∙ ap (λ l. s ++ hex_text l) (take_all i bs h)
+-- a number of 8 bits
+pub byte_range : (b : ℕ) → Fits w8 b → b < 256
+byte_range b h = search rules
+
+-- the two digits of a byte
+pub digits_written : (b : ℕ) → b < 256 → padded_integral (format_spec 32 0 4 2 (2 ^ 64 - 1)) false [] (digits 16 false b) ≡ digit_char (b / 16) ∷ digit_char (b % 16) ∷ []
+digits_written b h = hex_byte false b h
 
 -- a loop that writes the texts f 0, f 1, ..
 pub each_more : (f : ℕ → List ℕ) (i : ℕ) (s t u : List ℕ) → t ≡ s ++ each i f → u ≡ t ++ f i → u ≡ s ++ each (i + 1) f

@@ -38,7 +38,10 @@ fn show_plan(heap: Global, plan: &Option<Plan>) -> Result<String, AllocError>
     ensures { IfOk result (λ text. string_bytes text ≡ asked plan.now map_text) }
 {
     match plan {
-        Some(plan) => text::map(heap, plan),
+        Some(plan) => {
+            let map = text::Map(plan);
+            format!(in heap; "{map}")
+        }
         None => String::from_str(heap, "no plan"),
     }
 }

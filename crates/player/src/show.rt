@@ -5,7 +5,7 @@ ghost use Rattle.pool.specs.Book.{phase_number};
 ghost use Rattle.player.specs.Shows.{answer_text, carried_now, phase_text, out_text, slot_text, module_text, show_text};
 ghost use Rattle.player.specs.Texts.{each};
 
-use crate::text::{push_number, push_text, refused};
+use crate::text::refused;
 use layout::plan::Plan;
 use pool::kinds::{Answer, Phase};
 use rack::Rack;
@@ -52,6 +52,22 @@ fn head(heap: Global, phase: Phase, carried: u16) -> Result<String, AllocError>
     let number = phase_number(phase);
     let stripes = carried_now(phase, carried);
     format!(in heap; "phase {number}, carried {stripes}, out")
+}
+
+// One text more.
+fn push_text(out: &mut String, text: &str) -> Result<(), AllocError>
+    ensures { OnOk result (string_bytes out.new ≡ string_bytes out.old ++ text.now) }
+{
+    out.push_str(text)?;
+    Ok(())
+}
+
+// A space and a number.
+fn push_number(heap: Global, out: &mut String, n: u16) -> Result<(), AllocError>
+    ensures { OnOk result (string_bytes out.new ≡ string_bytes out.old ++ 32 ∷ decimal n) }
+{
+    let text = format!(in heap; " {n}")?;
+    out.push_str(text.as_str())
 }
 
 // Whether a module is fitted.
