@@ -1,5 +1,5 @@
 -- Calls that stand in a row, and what is printed for them. Assumes nothing.
-use Rattle.std.proofs.Common.{◌≡◌, ℕ, suc, List, [], ◌∷◌, ◌++◌, length, take, Some, None, codes, Option, sym, refl, ap, ◌∙◌, subst, inl, append-nil, arith, take_all}
+use Rattle.std.proofs.Common.{◌≡◌, ℕ, suc, List, [], ◌∷◌, ◌++◌, length, take, None, codes, Option, sym, refl, ap, ◌∙◌, subst, inl, append-nil, arith, take_all}
 use lib.Seq.{take-append-le}
 use Rattle.field.specs.Arithmetic.{Arithmetic}
 use Rattle.layout.specs.declared.plan.Plan.{Plan}
@@ -51,10 +51,6 @@ module _ (writes : List ℕ → Command → Type 0) where
   calls_many [] (c ∷ cs) h = absurd h
   calls_many (l ∷ part) [] h = absurd h
   calls_many (l ∷ part) (c ∷ cs) h = ap suc (calls_many part cs h.1)
-
-  -- a line that is read as a call writes it
-  pub call_written : (line : List ℕ) (command : Option Command) (c : Call) → Understood writes line command → command ≡ Some (OnPool c) → writes line (OnPool c)
-  call_written line command c h e = subst (Understood writes line) e h
 
   -- after the last line nothing is read
   pub read_none : (left : List (List ℕ)) → left ≡ [] → ReadsNext writes left None

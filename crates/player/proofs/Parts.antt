@@ -36,15 +36,8 @@ module _ (writes : List ℕ → Command → Type 0) where
         Answers writes y line z text → after ≡ out ++ (line ++ (codes ": " ++ (text ++ 10 ∷ []))) → Goes writes x left0 out0 z rest after
     goes_answer y z left rest line text out after goes e pass answers is b all sofar = answered writes b y z all left rest line text out after (goes b all sofar) e pass answers is
 
-    -- where no line is left, what is there no longer matters
-    pub goes_end : (y z : State) (left : List (List ℕ)) (out : List ℕ) → left ≡ [] → Goes writes x left0 out0 y left out → Goes writes x left0 out0 z left out
-    goes_end y z left out e goes b all sofar more h = goes b all sofar more (subst (λ l. Printed writes y l more) (sym e) (subst (λ l. Printed writes z l more) e h))
-
     pub goes_then : (y z : State) (left left2 : List (List ℕ)) (out out2 : List ℕ) → Goes writes x left0 out0 y left out → Goes writes y left out z left2 out2 → Goes writes x left0 out0 z left2 out2
     goes_then y z left left2 out out2 f g b all sofar = g b all (f b all sofar)
-
-    pub goes_same : (y z : State) (left : List (List ℕ)) (out : List ℕ) → y ≡ z → Goes writes x left0 out0 y left out → Goes writes x left0 out0 z left out
-    goes_same y z left out e goes = subst (λ w. Goes writes x left0 out0 w left out) e goes
 
 -- a line that asks for nothing keeps what is there
 pub same_memory : (r : Option Request) (m : Memory) → is_some r ≡ false → memory_by r m ≡ m
@@ -76,10 +69,6 @@ module _ {L : Type 0} (writes : List ℕ → Command → Type 0) (b : Session L)
 
   pub plays_same : (e : Session L) (m m' : Memory) → m ≡ m' → Plays writes b m0 e m → Plays writes b m0 e m'
   plays_same e m m' same f = subst (λ x. Plays writes b m0 e x) same f
-
-  -- where no line is left, what is there no longer matters
-  pub plays_end : (e : Session L) (m m' : Memory) → lines_left e ≡ [] → Plays writes b m0 e m → Plays writes b m0 e m'
-  plays_end e m m' none f = goes_end writes (state b.plan m0) (lines_left b) b.out.items (state e.plan m) (state e.plan m') (lines_left e) e.out.items none f
 
   -- one line more
   pub line_played : (s e : Session L) (m m' : Memory) (line rest text : List ℕ) (command : Option Command) (after : Option Plan) → Plays writes b m0 s m → IsNextLine s.left.now line rest → Understood writes line command →

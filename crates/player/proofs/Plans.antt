@@ -1,14 +1,12 @@
 -- What lines answer that set a plan, or ask for a rack or a pool. Assumes nothing.
-use Rattle.std.proofs.Common.{◌≡◌, ℕ, Bool, true, false, List, Some, None, Ok, Err, codes, Option, Result, sym, refl, ap, ◌∙◌, subst, MatchOption}
+use Rattle.std.proofs.Common.{◌≡◌, ℕ, List, Some, None, Ok, Err, codes, Option, Result, sym, refl, ap, ◌∙◌, subst, MatchOption}
 use Rattle.layout.specs.declared.label.Label as layout-label
 use Rattle.layout.specs.declared.plan.Plan as layout-plan
 use Rattle.layout.specs.declared.refusal.Refusal.{Refusal}
 use Rattle.layout.specs.Labels.{label_of}
 use Rattle.layout.specs.Refusals.{plan_refusal, Has, Judged}
 use Rattle.pool.specs.Openings.{lay_refusal, open_refusal, laid_over}
-use Rattle.rack.specs.Laid.{fair, unless}
 use Rattle.rack.specs.Meaning.{Meaning}
-use Rattle.player.specs.declared.request.RackRequest.{RackRequest}
 use Rattle.player.specs.declared.request.Request.{Request}
 use Rattle.player.specs.declared.request.Request.TheVariants as request
 use Rattle.player.specs.declared.request.By.{By}
@@ -20,10 +18,9 @@ use Rattle.script.specs.declared.command.RackCall.{RackCall}
 use Rattle.pool.specs.declared.kinds.Call.{Call}
 use Rattle.field.specs.Arithmetic.{Arithmetic}
 use Rattle.script.specs.declared.command.FieldKind.{FieldKind}
-use Rattle.script.specs.declared.command.RackKind.{RackKind}
 use Rattle.player.specs.Texts.{refused_text}
-use Rattle.player.specs.Answers.{Memory, bare, pooled, rack_in, State, state, arithmetic_of, blank_rack, Says, Lays, Opens, label_bytes, opened_over, Responds}
-use Rattle.player.specs.Holding.{alone, started_over, started_on, memory_by, Fits, Possible, PlanSet, RackAsked, wanted_refusal, Starts, PoolAsked, LayAsked, IsAlike}
+use Rattle.player.specs.Answers.{Memory, pooled, rack_in, State, state, arithmetic_of, Says, Lays, Opens, label_bytes, opened_over, Responds}
+use Rattle.player.specs.Holding.{started_over, started_on, memory_by, Fits, Possible, PlanSet, wanted_refusal, Starts, PoolAsked, LayAsked, IsAlike}
 
 at_none : (o : Option Refusal) (P : Type 0) (Q : Refusal → Type 0) → o ≡ None → P → MatchOption o P Q
 at_none o P Q e h = subst (λ x. MatchOption x P Q) (sym e) h
@@ -57,35 +54,6 @@ pub sets_plan : (c : Command) (plan : Option layout-plan.Plan) (m : Memory) (q d
 sets_plan c plan m q d r d' r' L new out made text is judged none set =
     subst (λ x. Responds (state plan m) x (state out (memory_by made m)) text) (sym is)
     (subst (λ y. Responds (state plan m) (Plan q d r d' r' L) (state out (memory_by y m)) text) (sym none) (plan_set plan m q d r d' r' L new out text judged set))
-
--- a line that asks for a rack, by whether its numbers are in their bounds
-rack_asked_lem : (f : Bool) (plan : Option layout-plan.Plan) (m : Memory) (q : RackRequest) (made : Option Request) (text : List ℕ) →
-    MatchOption (unless f) ((made ≡ Some (request.Rack q)) × (text ≡ codes "ok")) (λ e. (made ≡ None) × (text ≡ refused_text e)) →
-    MatchOption (unless f) ((state plan (memory_by made m) ≡ state plan (bare (blank_rack q.order q.modules q.slots q.length))) × (text ≡ codes "ok"))
-    (λ x. Says (state plan m) (refused_text x) (state plan (memory_by made m)) text)
-rack_asked_lem true plan m q made text h = (ap (λ y. state plan (memory_by y m)) h.0, h.1)
-rack_asked_lem false plan m q made text h = (ap (λ y. state plan (memory_by y m)) h.0, h.1)
-
-pub asks_rack : (c : Command) (plan : Option layout-plan.Plan) (m : Memory) (kind : RackKind) (q : RackRequest) (out : Option layout-plan.Plan) (made : Option Request) (text : List ℕ) →
-    c ≡ Rack kind q.order q.modules q.slots q.length → out ≡ plan → RackAsked q made text → Responds (state plan m) c (state out (memory_by made m)) text
-asks_rack c plan m kind q out made text is same h =
-    subst (λ x. Responds (state plan m) x (state out (memory_by made m)) text) (sym is)
-    (subst (λ o. Responds (state plan m) (Rack kind q.order q.modules q.slots q.length) (state o (memory_by made m)) text) (sym same)
-    (rack_asked_lem (fair q.order q.modules q.slots q.length) plan m q made text h))
-
--- only a rack with its numbers in their bounds is asked for
-rack_possible_by : (f : Bool) (q : RackRequest) (made : Option Request) (o : Option Meaning) (text : List ℕ) → f ≡ fair q.order q.modules q.slots q.length →
-    MatchOption (unless f) ((made ≡ Some (request.Rack q)) × (text ≡ codes "ok")) (λ e. (made ≡ None) × (text ≡ refused_text e)) → Possible made o
-rack_possible_by true q made o text e h = subst (λ x. Possible x o) (sym h.0) (sym e)
-rack_possible_by false q made o text e h = none_possible made o h.0
-
-pub rack_possible : (q : RackRequest) (made : Option Request) (o : Option Meaning) (text : List ℕ) → RackAsked q made text → Possible made o
-rack_possible q made o text h = rack_possible_by (fair q.order q.modules q.slots q.length) q made o text refl h
-
--- the rack of a memory that no pool has
-pub rack_alone : (o : Option Meaning) → rack_in (alone o) ≡ o
-rack_alone (Some w) = refl
-rack_alone None = refl
 
 -- a pool that a plan or a label starts
 started_plan : (A : Arithmetic) (p : layout-plan.Plan) (w : Meaning) (y : By) → Starts (Wanted.Lay p) y → started_over A y w ≡ pooled A p (laid_over p w)

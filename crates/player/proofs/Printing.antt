@@ -77,12 +77,6 @@ all_kept (line ∷ rest) = kept_by (passed_over line) line rest refl (all_kept r
 pub kept_head : (ls : List (List ℕ)) (line : List ℕ) (rest : List (List ℕ)) → kept ls ≡ line ∷ rest → passed_over line ≡ false
 kept_head ls line rest e = (subst AllKept e (all_kept ls)).0
 
-pub kept_pass : (line : List ℕ) (rest : List (List ℕ)) → passed_over line ≡ true → kept (line ∷ rest) ≡ kept rest
-kept_pass line rest e = cond-true (passed_over line) (kept rest) (line ∷ kept rest) e
-
-pub kept_first : (line : List ℕ) (rest : List (List ℕ)) → passed_over line ≡ false → kept (line ∷ rest) ≡ line ∷ kept rest
-kept_first line rest e = cond-false (passed_over line) (kept rest) (line ∷ kept rest) e
-
 -- a line with its answer, and what is printed after it
 pub line_joined : (out line text more : List ℕ) → (out ++ (line ++ (codes ": " ++ (text ++ 10 ∷ [])))) ++ more ≡ out ++ (line ++ (codes ": " ++ (text ++ 10 ∷ more)))
 line_joined out line text more =

@@ -1,5 +1,5 @@
 -- What a script acts on, as the program holds it. Assumes nothing.
-use Rattle.std.specs.Prelude.{◌≡◌, ℕ, true, List, ◌++◌, IfSome, Some, None, Ok, Err, codes, decimal, Option, Result, MatchOption}
+use Rattle.std.specs.Prelude.{◌≡◌, ℕ, true, List, IfSome, Some, None, Ok, Err, codes, Option, Result, MatchOption}
 use Rattle.field.specs.Arithmetic.{Arithmetic}
 use Rattle.layout.specs.declared.plan.Plan.{Plan}
 use Rattle.layout.specs.declared.refusal.Refusal.{Refusal}
@@ -14,7 +14,7 @@ use Rattle.script.specs.declared.command.Command.{Command}
 use Rattle.script.specs.declared.command.Command.TheVariants as command
 use Rattle.script.specs.declared.command.FieldKind.{FieldKind}
 use Rattle.player.specs.declared.racks.Outcome.{Outcome}
-use Rattle.player.specs.declared.racks.Outcome.TheVariants.{Symbol, Nothing, Done, NothingDone, Fitted, Out, NoRack}
+use Rattle.player.specs.declared.racks.Outcome.TheVariants.{Got, Done, Fitted, NoRack}
 use Rattle.player.specs.declared.request.RackRequest.{RackRequest}
 use Rattle.player.specs.declared.request.By.{By}
 use Rattle.player.specs.declared.request.By.TheVariants as by
@@ -24,15 +24,13 @@ use Rattle.player.specs.declared.request.Wanted.TheVariants.{Lay, Open}
 use Rattle.player.specs.declared.request.Request.{Request}
 use Rattle.player.specs.declared.request.Request.TheVariants as request
 use Rattle.player.specs.Texts.{refused_text}
-use Rattle.player.specs.Answers.{Memory, nothing, bare, pooled, rack_in, arithmetic_of, blank_rack, label_bytes, opened_over}
+use Rattle.player.specs.Answers.{Memory, nothing, bare, pooled, rack_in, arithmetic_of, blank_rack, got_text, done_text, asked_text, label_bytes, opened_over}
 
+-- the text of what a call on the rack came to
 abbrev pub outcome_text : Outcome → List ℕ
-outcome_text (Symbol v) = codes "ok " ++ decimal v
-outcome_text Nothing = codes "nothing"
-outcome_text Done = codes "done"
-outcome_text NothingDone = codes "nothing done"
-outcome_text Fitted = codes "fitted"
-outcome_text Out = codes "out"
+outcome_text (Got o) = got_text o
+outcome_text (Done b) = done_text b
+outcome_text (Fitted b) = asked_text b
 outcome_text NoRack = codes "no rack"
 
 -- the rack, if there is one, keeps what it keeps true of itself

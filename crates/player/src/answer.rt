@@ -149,8 +149,9 @@ fn respond_pooled<F: Field, R: Rack>(
     pool: &Pool<F, R>,
     command: Command,
 ) -> Result<Response, AllocError>
-    requires { call_in (Some command) ≡ None }
-    ensures { R.valid pool.now.rack → IfOk result (λ a. Responds (state plan.old (within F.arithmetic R.valid R.meaning pool.now)) command (state plan.new (memory_by a.request (within F.arithmetic R.valid R.meaning pool.now))) (string_bytes a.text) × Possible a.request (Some (R.meaning pool.now.rack))) }
+    requires other { call_in (Some command) ≡ None }
+    requires valid { R.valid pool.now.rack }
+    ensures { IfOk result (λ a. Responds (state plan.old (within F.arithmetic R.valid R.meaning pool.now)) command (state plan.new (memory_by a.request (within F.arithmetic R.valid R.meaning pool.now))) (string_bytes a.text) × Possible a.request (Some (R.meaning pool.now.rack))) }
 {
     match command {
         Command::OnRack(_) => Ok(pools::say(heap, "no rack")?),
@@ -168,8 +169,9 @@ pub fn answer_pooled<F: Field, R: Rack>(
     pool: &Pool<F, R>,
     command: Option<Command>,
 ) -> Result<Response, AllocError>
-    requires { call_in command ≡ None }
-    ensures { R.valid pool.now.rack → IfOk result (λ a. Replies (state plan.old (within F.arithmetic R.valid R.meaning pool.now)) command (state plan.new (memory_by a.request (within F.arithmetic R.valid R.meaning pool.now))) (string_bytes a.text) × Possible a.request (Some (R.meaning pool.now.rack))) }
+    requires other { call_in command ≡ None }
+    requires valid { R.valid pool.now.rack }
+    ensures { IfOk result (λ a. Replies (state plan.old (within F.arithmetic R.valid R.meaning pool.now)) command (state plan.new (memory_by a.request (within F.arithmetic R.valid R.meaning pool.now))) (string_bytes a.text) × Possible a.request (Some (R.meaning pool.now.rack))) }
 {
     match command {
         Some(command) => Ok(respond_pooled(heap, plan, pool, command)?),

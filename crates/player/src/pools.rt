@@ -7,7 +7,7 @@ ghost use Rattle.player.specs.Holding.{Ready, Starts, Fits, wanted_refusal, Pool
 ghost use Rattle.std.specs.Option.{option_copied, option_map};
 
 use crate::request::{By, Request, Response, Start, Wanted};
-use crate::show::show;
+use crate::show::Shown;
 use crate::text;
 use field::{ByteField, Field, NibbleField, PrimeField};
 use layout::plan::Plan;
@@ -94,10 +94,16 @@ pub fn ask_lay<R: Rack>(
     }
 }
 
-/// A line that shows how the pool stands, and its memory.
+/// How the pool stands, and its memory.
 pub fn show_pool<F: Field, R: Rack>(heap: Global, pool: &Pool<F, R>) -> Result<String, AllocError>
-    ensures { R.valid pool.now.rack → IfOk result (λ text. string_bytes text ≡ standing_text pool.now.plan (standing F.arithmetic R.valid R.meaning pool.now)) }
+    requires { R.valid pool.now.rack }
+    ensures { IfOk result (λ text. string_bytes text ≡ standing_text pool.now.plan (standing F.arithmetic R.valid R.meaning pool.now)) }
 {
-    let plan = pool.plan();
-    show(heap, &plan, pool.phase(), pool.carried(), pool.rack())
+    let shown = Shown {
+        plan: pool.plan(),
+        phase: pool.phase(),
+        carried: pool.carried(),
+        rack: pool.rack(),
+    };
+    format!(in heap; "{shown}")
 }

@@ -13,12 +13,12 @@ use std::fmt;
 /// What a call on the rack came to.
 #[derive(Clone, Copy, PartialEq, Eq, Debug)]
 pub enum Outcome {
-    Symbol(u16),
-    Nothing,
-    Done,
-    NothingDone,
-    Fitted,
-    Out,
+    /// the symbol, if there is one
+    Got(Option<u16>),
+    /// whether anything was done
+    Done(bool),
+    /// whether the module is fitted
+    Fitted(bool),
     NoRack,
 }
 
@@ -27,38 +27,13 @@ fn on_rack<R: Rack>(rack: &mut R, call: RackCall) -> Outcome
     ensures { R.valid rack.old → (outcome_text result ≡ called_text (R.meaning rack.old) call) × (R.meaning rack.new ≡ called (R.meaning rack.old) call) × R.valid rack.new }
 {
     match call {
-        RackCall::Get(module, slot, offset) => match rack.get(module, slot, offset) {
-            Some(symbol) => Outcome::Symbol(symbol),
-            None => Outcome::Nothing,
-        },
+        RackCall::Get(module, slot, offset) => Outcome::Got(rack.get(module, slot, offset)),
         RackCall::Put(module, slot, offset, symbol) => {
-            if rack.put(module, slot, offset, symbol) {
-                Outcome::Done
-            } else {
-                Outcome::NothingDone
-            }
+            Outcome::Done(rack.put(module, slot, offset, symbol))
         }
-        RackCall::Pull(module) => {
-            if rack.pull(module) {
-                Outcome::Done
-            } else {
-                Outcome::NothingDone
-            }
-        }
-        RackCall::Fit(module) => {
-            if rack.fit(module) {
-                Outcome::Done
-            } else {
-                Outcome::NothingDone
-            }
-        }
-        RackCall::Ask(module) => {
-            if rack.ask(module) {
-                Outcome::Fitted
-            } else {
-                Outcome::Out
-            }
-        }
+        RackCall::Pull(module) => Outcome::Done(rack.pull(module)),
+        RackCall::Fit(module) => Outcome::Done(rack.fit(module)),
+        RackCall::Ask(module) => Outcome::Fitted(rack.ask(module)),
     }
 }
 
@@ -79,13 +54,13 @@ impl fmt::Display for Outcome {
     ghost output = { λ o. Some (outcome_text o) };
 
     fn fmt<W: fmt::Write>(&self, f: &mut fmt::Formatter<W>) -> fmt::Result {
-        match self {
-            Outcome::Symbol(symbol) => write!(f, "ok {symbol}"),
-            Outcome::Nothing => f.write_str("nothing"),
-            Outcome::Done => f.write_str("done"),
-            Outcome::NothingDone => f.write_str("nothing done"),
-            Outcome::Fitted => f.write_str("fitted"),
-            Outcome::Out => f.write_str("out"),
+        match *self {
+            Outcome::Got(Some(symbol)) => write!(f, "ok {symbol}"),
+            Outcome::Got(None) => f.write_str("nothing"),
+            Outcome::Done(true) => f.write_str("done"),
+            Outcome::Done(false) => f.write_str("nothing done"),
+            Outcome::Fitted(true) => f.write_str("fitted"),
+            Outcome::Fitted(false) => f.write_str("out"),
             Outcome::NoRack => f.write_str("no rack"),
         }
     }

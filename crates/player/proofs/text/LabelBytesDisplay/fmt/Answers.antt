@@ -1,4 +1,4 @@
-use Rattle.std.proofs.Common.{replicate, Some, refl, ap, subst}
+use Rattle.std.proofs.Common.{replicate, Some, refl, subst}
 use Rattle.std.specs.Fmt.{DisplaysOnOk}
 use Rattle.player.specs.Texts.{hex_text}
 use Rattle.player.proofs.Labels.{filled}
