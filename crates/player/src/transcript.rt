@@ -16,11 +16,7 @@ use std::alloc::{AllocError, Global};
 fn ordered(heap: Global, pages: u16) -> Result<Vec<u16>, AllocError>
     ensures { IfOk result (λ v. (length v.items ≡ pages) × ((k : ℕ) → k < pages → slice_index v.items k ≡ k)) }
 {
-    let mut map = Vec::new(heap);
-    for page in 0..pages {
-        map.push(page)?;
-    }
-    Ok(map)
+    (0..pages).collect(heap)
 }
 
 impl<L: Language> Session<'_, L> {
