@@ -1,74 +1,71 @@
 -- What a write to the flat row does to its meaning.
-use Rattle.std.proofs.Common.{◌≡◌, ℕ, ◌+◌, ◌*◌, ◌<◌, ◌≤◌, Bool, true, false, cond, ltb, leb, ◌≢◌, List, length, get_or, set, None, sym, ap, ◌∙◌, ⊎_elim, mul-le-mul_right, mul_assoc, add-mul, arith, get_or-set_other, get_or-set_same}
+use Rattle.std.proofs.Common.{◌≡◌, ℕ, ◌+◌, ◌*◌, ◌<◌, ◌≤◌, Bool, true, ◌≢◌, List, length, get_or, set, sym, ap, ◌∙◌, subst, ⊎_elim, mul-le-mul_right, mul_assoc, add-mul, arith, get_or-set_other, get_or-set_same}
 use lib.Arith.{digits_lt}
-use Rattle.std.proofs.lemmas.List.{set_past}
-use Rattle.std.proofs.lemmas.Bool.{leb-true, le-leb, ltb-false, and_parts, and_from, cases_lt}
-use Rattle.rack.specs.Meaning.{stored, flagged}
-use Rattle.rack.specs.Laid.{fair}
-use Rattle.rack.specs.Flat.{at, flat, flat_fits, flat_refusal, FlatSound}
-use Rattle.rack.proofs.Laids.{same_high, same_low, unless_none, unless_true, fair_parts, fair_from, fair_flags, laid_put, laid_flag}
+use Rattle.std.proofs.lemmas.Bool.{cond-true, cases_lt}
+use Rattle.rack.specs.declared.size.Size.{Size}
+use Rattle.rack.specs.declared.shape.Shape.{Shape}
+use Rattle.rack.specs.Meaning.{fits, stored, flagged, Fits}
+use Rattle.rack.specs.Shaped.{marked, is_unlike}
+use Rattle.rack.specs.Flat.{at, flat, Blanked, FlatSound}
+use Rattle.rack.proofs.Laids.{same_high, same_low, At, fair_marked, laid_put, laid_flag, fits_laid, empty_parts}
 
-pub place_lt : (M S L m s o : ℕ) → m < M → s < S → o < L → at S L m s o < M * S * L
-place_lt M S L m s o hm hs ho = digits_lt (digits_lt hm hs) ho
+pub place_lt : {x : Shape} {m s o : ℕ} → At x m s o → at x.size m s o < x.size.modules * x.size.slots * x.size.length
+place_lt h = digits_lt (digits_lt h.module_inside h.slot_inside) h.offset_inside
 
-pub flat_put : (order modules slots span : ℕ) (on : List Bool) (cells : List ℕ) (m s o v : ℕ)
-    → m < modules → s < slots → o < span → get_or on m false ≡ true → v < order
-    → modules * slots * span ≤ length cells
-    → flat order modules slots span on (set cells (at slots span m s o) v)
-    ≡ stored (flat order modules slots span on cells) m s o v
-flat_put order modules slots span on cells m s o v hm hs ho hon hv room =
-    laid_put order modules slots span on (λ x y z. get_or cells (at slots span x y z) 0) (λ x y z. get_or (set cells (at slots span m s o) v) (at slots span x y z) 0)
-    m s o v hm hs ho hon hv
-    (get_or-set_same cells (at slots span m s o) v 0 (omega (arith, place_lt modules slots span m s o hm hs ho)))
+pub flat_put : (x : Shape) (cells : List ℕ) (m s o v : ℕ) → At x m s o → v < x.size.order
+    → x.size.modules * x.size.slots * x.size.length ≤ length cells
+    → flat x (set cells (at x.size m s o) v) ≡ stored (flat x cells) m s o v
+flat_put x cells m s o v h hv room =
+    let S = x.size.slots in let L = x.size.length in
+    laid_put x (λ a b d. get_or cells (at x.size a b d) 0) (λ a b d. get_or (set cells (at x.size m s o) v) (at x.size a b d) 0)
+    m s o v h hv
+    (get_or-set_same cells (at x.size m s o) v 0 (omega (arith, place_lt h)))
     (λ m' s' o' hm' hs' ho' n.
-    get_or-set_other cells (at slots span m s o) (at slots span m' s' o') v 0
-    (λ e. let row = same_high (m' * slots + s') (m * slots + s) span o' o ho' ho e in
-    n (same_high m' m slots s' s hs' hs row, same_low m' m slots s' s hs' hs row, same_low (m' * slots + s') (m * slots + s) span o' o ho' ho e)))
+    get_or-set_other cells (at x.size m s o) (at x.size m' s' o') v 0
+    (λ e. let row = same_high (m' * S + s') (m * S + s) L o' o ho' h.offset_inside e in
+    n (
+      same_high m' m S s' s hs' h.slot_inside row,
+      same_low m' m S s' s hs' h.slot_inside row,
+      same_low (m' * S + s') (m * S + s) L o' o ho' h.offset_inside e,
+    )))
 
 -- a module's places lie between m and m + 1 times its size, and no other module's do
-module_from : (slots span m s o : ℕ) → m * (slots * span) ≤ at slots span m s o
-module_from slots span m s o = omega (arith, add-mul (m * slots) s span, mul_assoc m slots span)
+module_from : (size : Size) (m s o : ℕ) → m * (size.slots * size.length) ≤ at size m s o
+module_from size m s o = omega (arith, add-mul (m * size.slots) s size.length, mul_assoc m size.slots size.length)
 
-module_to : (slots span m s o : ℕ) → s < slots → o < span → at slots span m s o < m * (slots * span) + slots * span
-module_to slots span m s o hs ho =
-    omega (arith, place_lt (m + 1) slots span m s o (omega arith) hs ho, mul_assoc (m + 1) slots span, add-mul m 1 (slots * span))
+module_to : (size : Size) (m s o : ℕ) → s < size.slots → o < size.length → at size m s o < m * (size.slots * size.length) + size.slots * size.length
+module_to size m s o hs ho =
+    let next : m < m + 1 = omega arith in
+    omega (arith, digits_lt (digits_lt next hs) ho, mul_assoc (m + 1) size.slots size.length, add-mul m 1 (size.slots * size.length))
 
-next_module : (size m m' : ℕ) → m < m' → m * size + size ≤ m' * size
-next_module size m m' h = omega (arith, add-mul m 1 size, mul-le-mul_right {m = m + 1} {n = m'} size (omega arith))
+next_module : (n m m' : ℕ) → m < m' → m * n + n ≤ m' * n
+next_module n m m' h = omega (arith, add-mul m 1 n, mul-le-mul_right {m = m + 1} {n = m'} n (omega arith))
 
 apart : (m m' : ℕ) → m' ≢ m → m ≤ m' → m < m'
 apart m m' n h = omega arith
 
-pub flat_fit : (order modules slots span m : ℕ) (on : List Bool) (cells cells' : List ℕ) → m < modules → m < length on
-    → ((k : ℕ) → m * (slots * span) ≤ k → k < m * (slots * span) + slots * span → get_or cells' k 0 ≡ 0)
-    → ((k : ℕ) → k < m * (slots * span) → get_or cells' k 0 ≡ get_or cells k 0)
-    → ((k : ℕ) → m * (slots * span) + slots * span ≤ k → get_or cells' k 0 ≡ get_or cells k 0)
-    → flat order modules slots span (set on m true) cells' ≡ flagged (flat order modules slots span on cells) m true
-flat_fit order modules slots span m on cells cells' hm hl zero below above =
-    laid_flag order modules slots span m on (λ x y z. get_or cells (at slots span x y z) 0) (λ x y z. get_or cells' (at slots span x y z) 0) true hm hl
-    (λ s o hs ho _. zero (at slots span m s o) (module_from slots span m s o) (module_to slots span m s o hs ho))
-    (λ m' s o n hm' hs ho.
-    ⊎_elim (λ (h : m' < m). below (at slots span m' s o) (omega (arith, module_to slots span m' s o hs ho, next_module (slots * span) m' m h)))
-    (λ (h : m ≤ m'). above (at slots span m' s o) (omega (arith, module_from slots span m' s o, next_module (slots * span) m m' (apart m m' n h))))
-    (cases_lt m' m))
+pub flat_keeps : {x : Shape} {cells cells' : List ℕ} → FlatSound x cells → length cells' ≡ length cells → FlatSound x cells'
+flat_keeps h e = record { numbers = h.numbers; room = omega (arith, h.room) }
 
-pub flat_keeps : {order modules slots span : ℕ} {on on' : List Bool} {cells cells' : List ℕ} → FlatSound order modules slots span on cells
-    → length on' ≡ length on → length cells' ≡ length cells → FlatSound order modules slots span on' cells'
-flat_keeps h a b = record { numbers = fair_flags a h.numbers; room = omega (arith, h.room) }
+pub flat_marked : {x : Shape} {cells : List ℕ} (m : ℕ) (b : Bool) → FlatSound x cells → FlatSound (marked x m b) cells
+flat_marked m b h = record { numbers = fair_marked m b h.numbers; room = h.room }
 
--- memory that is not refused is sound, and the other way round
-pub flat_sound : (order modules slots span : ℕ) (on : List Bool) (cells : List ℕ) → length on ≡ 32 → flat_refusal cells order modules slots span ≡ None
-    → FlatSound order modules slots span on cells
-flat_sound order modules slots span on cells f e =
-    let p = and_parts (fair order modules slots span) (leb (modules * slots * span) (length cells)) (unless_none (flat_fits cells order modules slots span) e) in
-    record { numbers = fair_parts order modules slots span on f p.0; room = leb-true (modules * slots * span) (length cells) p.1 }
-
-pub flat_unrefused : (order modules slots span : ℕ) (on : List Bool) (cells : List ℕ) → FlatSound order modules slots span on cells
-    → flat_refusal cells order modules slots span ≡ None
-flat_unrefused order modules slots span on cells h =
-    unless_true (flat_fits cells order modules slots span) (and_from _ _ (fair_from order modules slots span on h.numbers) (le-leb (modules * slots * span) (length cells) h.room))
-
--- a number that is stored in a cell, or nothing changed where the cell is outside
-pub stored_cells : (cells cells' : List ℕ) (i k v : ℕ) (r : Bool) → i ≡ k → r ≡ ltb i (length cells) → cells' ≡ set cells i v → cells' ≡ cond r (set cells k v) cells
-stored_cells cells cells' i k v true e b a = a ∙ ap (λ (n : ℕ). set cells n v) e
-stored_cells cells cells' i k v false e b a = a ∙ set_past cells i v (ltb-false i (length cells) (sym b))
+pub flat_fit : (x x' : Shape) (m : ℕ) (cells cells' : List ℕ) → FlatSound x cells → true ≡ is_unlike x m true → x' ≡ marked x m true
+    → length cells' ≡ length cells → Blanked x.size m cells cells'
+    → Fits (flat x cells) (flat x' cells') m true × FlatSound x' cells'
+flat_fit x x' m cells cells' h e a long blanked =
+    let size = x.size in let n = size.slots * size.length in
+    let p = empty_parts x m e in
+    let w = flat x cells in
+    let t = fits_laid x m (λ b d k. get_or cells (at size b d k) 0) p.0 p.1 in
+    let same : flat (marked x m true) cells' ≡ flagged w m true =
+    laid_flag x m (λ b d k. get_or cells (at size b d k) 0) (λ b d k. get_or cells' (at size b d k) 0) true p.0
+    (omega (arith, h.numbers.flags, h.numbers.modules_high, p.0))
+    (λ s o hs ho _. blanked.zero (at size m s o) (module_from size m s o) (module_to size m s o hs ho))
+    (λ m' s o d hm' hs ho.
+    ⊎_elim (λ (l : m' < m). blanked.below (at size m' s o) (omega (arith, module_to size m' s o hs ho, next_module n m' m l)))
+    (λ (l : m ≤ m'). blanked.above (at size m' s o) (omega (arith, module_from size m' s o, next_module n m m' (apart m m' d l))))
+    (cases_lt m' m)) in (
+      record { answer = sym t; after = ap (λ y. flat y cells') a ∙ same ∙ sym (cond-true (fits w m) (flagged w m true) w t) },
+      subst (λ y. FlatSound y cells') (sym a) (flat_marked m true (flat_keeps h long)),
+    )

@@ -1,14 +1,14 @@
 -- What a turn of a page does to the meaning.
-use Rattle.std.proofs.Common.{◌≡◌, ℕ, ◌+◌, ◌*◌, ◌<◌, ◌≤◌, Bool, true, false, cond, not, ◌&&◌, ◌||◌, eqb, ltb, leb, ◌≢◌, ◌⊎◌, List, length, get_or, set, None, Decides, sym, refl, ap, ◌∙◌, subst, inl, inr, ⊎_elim, mul-le-mul_right, add-mul, add-one, arith, length-set, get_or-set_other, get_or-set_same}
+use Rattle.std.proofs.Common.{◌≡◌, ℕ, ◌+◌, ◌-◌, ◌*◌, ◌<◌, ◌≤◌, Bool, true, false, cond, not, ◌&&◌, ◌||◌, eqb, ltb, ◌≢◌, ◌⊎◌, List, length, get_or, set, None, Decides, sym, refl, ap, ◌∙◌, subst, inl, inr, ⊎_elim, mul-le-mul_right, add-mul, add-one, arith, length-set, get_or-set_other, get_or-set_same}
 use lib.Arith.{digits_lt}
-use Rattle.std.proofs.lemmas.Bool.{leb-true, le-leb, eq-eqb, ne_eqb, and_parts, and_from, cond-true, cond-false, cases_eq, cases_lt, cases_Bool, cases_order, lt-ltb, or_left, not_from_false}
+use Rattle.std.proofs.lemmas.Bool.{le-leb, eq-eqb, ne_eqb, and_from, cond-true, cond-false, cases_eq, cases_lt, cases_Bool, cases_order, lt-ltb, or_left, not_from_false}
 use Rattle.std.proofs.lemmas.Bool.Decides.{nat_tests, Decides-eqb, Decides-ltb, Decides-not, Decides-and, Decides-below_and, Decides-below_or}
+use Rattle.rack.specs.declared.size.Size.{Size}
 use Rattle.rack.specs.declared.shape.Shape.{Shape}
 use Rattle.rack.specs.Meaning.{takes, fits, stored, flagged, Puts, Fits}
-use Rattle.rack.specs.Shaped.{marked}
-use Rattle.rack.specs.Laid.{fair}
-use Rattle.rack.specs.Turning.{paged, turned, named, each_once, turn_fits, turn_refusal, exchanged, TurnSound}
-use Rattle.rack.proofs.Laids.{same_high, same_low, slot_lt, unless_none, unless_true, fair_parts, fair_from, fair_flags, laid_put, laid_flag, takes_laid, fits_laid, empty_parts}
+use Rattle.rack.specs.Shaped.{marked, is_unlike}
+use Rattle.rack.specs.Turning.{paged, turned, named, each_once, pages_of, page_of, spare_of, turn_fits, turn_refusal, exchanged, Turns, PagesBlanked, TurnSound}
+use Rattle.rack.proofs.Laids.{same_high, same_low, slot_lt, At, unless_true, fair_from, fair_marked, laid_put, laid_flag, takes_laid, fits_laid, empty_parts}
 
 -- the first n entries of a map are below n, and no two are the same
 abbrev pub Below : List ℕ → ℕ → Type 0
@@ -133,137 +133,107 @@ pub not_spare : (pages : List ℕ) (n j : ℕ) → j < n → Once pages (n + 1) 
 not_spare pages n j h once e = let z : j ≡ n = once j n (omega arith, omega arith, e) in omega arith
 
 -- the slot's page is written anew into the spare one, with one symbol changed, and the two entries are exchanged
-module _ (order modules slots span : ℕ) (on : List Bool) (pages cells cells' : List ℕ) (m s o v : ℕ)
-    (hm : m < modules) (hs : s < slots) (ho : o < span) (hon : get_or on m false ≡ true) (hv : v < order)
-    (sound : TurnSound order modules slots span on pages cells)
-    (long : length cells' ≡ length cells)
-    (changed : get_or cells' (get_or pages (modules * slots) 0 * span + o) 0 ≡ v)
-    (copied : (k : ℕ) → k < span → k ≢ o → get_or cells' (get_or pages (modules * slots) 0 * span + k) 0 ≡ get_or cells (get_or pages (m * slots + s) 0 * span + k) 0)
-    (kept : (p k : ℕ) → k < span → p ≢ get_or pages (modules * slots) 0 → get_or cells' (p * span + k) 0 ≡ get_or cells (p * span + k) 0)
+module _ (x : Shape) (map map' cells cells' : List ℕ) (m s o v : ℕ) (inside : At x m s o) (hv : v < x.size.order)
+    (sound : TurnSound x map cells) (long : length cells' ≡ length cells) (turns : Turns x.size map map' cells cells' m s o v)
   where
+    abbrev size : Size
+    size = x.size
+
     abbrev n : ℕ
-    n = modules * slots
+    n = x.size.modules * x.size.slots
 
     abbrev i : ℕ
-    i = m * slots + s
+    i = m * x.size.slots + s
 
     abbrev spare : ℕ
-    spare = get_or pages (modules * slots) 0
+    spare = spare_of x.size map
 
-    i_lt : m * slots + s < modules * slots
-    i_lt = slot_lt modules slots m s hm hs
+    i_lt : m * x.size.slots + s < x.size.modules * x.size.slots
+    i_lt = slot_lt x.size.modules x.size.slots m s inside.module_inside inside.slot_inside
 
     -- the entry of the slot is now the spare page's, and each other slot's is as it was
-    entry_same : get_or (exchanged pages i n) i 0 ≡ spare
+    entry_same : get_or (exchanged map i n) i 0 ≡ spare
     entry_same =
         let ne : i ≢ n = omega (arith, i_lt) in
-        get_or-set_other (set pages i spare) n i (get_or pages i 0) 0 ne ∙ get_or-set_same pages i spare 0 (omega (arith, i_lt, sound.entries))
+        get_or-set_other (set map i spare) n i (get_or map i 0) 0 ne ∙ get_or-set_same map i spare 0 (omega (arith, i_lt, sound.entries))
 
-    entry_other : (j : ℕ) → j < modules * slots → j ≢ i → get_or (exchanged pages i n) j 0 ≡ get_or pages j 0
+    entry_other : (j : ℕ) → j < x.size.modules * x.size.slots → j ≢ i → get_or (exchanged map i n) j 0 ≡ get_or map j 0
     entry_other j h a =
         let ne : j ≢ n = omega arith in
-        get_or-set_other (set pages i spare) n j (get_or pages i 0) 0 ne ∙ get_or-set_other pages i j spare 0 a
+        get_or-set_other (set map i spare) n j (get_or map i 0) 0 ne ∙ get_or-set_other map i j spare 0 a
 
     abbrev new : ℕ → ℕ → ℕ → ℕ
-    new m' s' o' = paged slots span (exchanged pages i n) cells' m' s' o'
+    new m' s' o' = paged x.size (exchanged map i n) cells' m' s' o'
 
     abbrev old : ℕ → ℕ → ℕ → ℕ
-    old m' s' o' = paged slots span pages cells m' s' o'
+    old m' s' o' = paged x.size map cells m' s' o'
 
-    other : (m' s' o' : ℕ) → m' < modules → s' < slots → o' < span → ((m' ≡ m) × (s' ≡ s) × (o' ≡ o) → ⊥) → new m' s' o' ≡ old m' s' o'
+    other : (m' s' o' : ℕ) → m' < x.size.modules → s' < x.size.slots → o' < x.size.length → ((m' ≡ m) × (s' ≡ s) × (o' ≡ o) → ⊥) → new m' s' o' ≡ old m' s' o'
     other m' s' o' hm' hs' ho' ne =
-        ⊎_elim (λ (e : m' * slots + s' ≡ i).
-        ap (λ x. get_or cells' (get_or (exchanged pages i n) x 0 * span + o') 0) e
-        ∙ ap (λ x. get_or cells' (x * span + o') 0) entry_same
-        ∙ copied o' ho' (λ eo. ne (same_high m' m slots s' s hs' hs e, same_low m' m slots s' s hs' hs e, eo))
-        ∙ ap (λ x. get_or cells (get_or pages x 0 * span + o') 0) (sym e))
-        (λ a. let lt = slot_lt modules slots m' s' hm' hs' in
-        ap (λ x. get_or cells' (x * span + o') 0) (entry_other (m' * slots + s') lt a)
-        ∙ kept (get_or pages (m' * slots + s') 0) o' ho' (not_spare pages n (m' * slots + s') lt (once_once pages (n + 1) sound.pages)))
-        (cases_eq (m' * slots + s') i)
+        ⊎_elim (λ (e : m' * size.slots + s' ≡ i).
+        ap (λ y. get_or cells' (get_or (exchanged map i n) y 0 * size.length + o') 0) e
+        ∙ ap (λ y. get_or cells' (y * size.length + o') 0) entry_same
+        ∙ turns.copied o' ho' (λ eo. ne (same_high m' m size.slots s' s hs' inside.slot_inside e, same_low m' m size.slots s' s hs' inside.slot_inside e, eo))
+        ∙ ap (λ y. get_or cells (get_or map y 0 * size.length + o') 0) (sym e))
+        (λ a. let lt = slot_lt size.modules size.slots m' s' hm' hs' in
+        ap (λ y. get_or cells' (y * size.length + o') 0) (entry_other (m' * size.slots + s') lt a)
+        ∙ turns.others (get_or map (m' * size.slots + s') 0) o' ho' (not_spare map n (m' * size.slots + s') lt (once_once map (n + 1) sound.pages)))
+        (cases_eq (m' * size.slots + s') i)
 
-    turn_put : turned order modules slots span on (exchanged pages (m * slots + s) (modules * slots)) cells'
-        ≡ stored (turned order modules slots span on pages cells) m s o v
+    turn_put : turned x (exchanged map i n) cells' ≡ stored (turned x map cells) m s o v
     turn_put =
-        laid_put order modules slots span on old new m s o v hm hs ho hon hv
-        (ap (λ x. get_or cells' (x * span + o) 0) entry_same ∙ changed) other
+        laid_put x old new m s o v inside hv
+        (ap (λ y. get_or cells' (y * size.length + o) 0) entry_same ∙ turns.changed) other
 
-    turn_put_sound : TurnSound order modules slots span on (exchanged pages (m * slots + s) (modules * slots)) cells'
+    turn_put_sound : TurnSound x (exchanged map i n) cells'
     turn_put_sound = record {
       numbers = sound.numbers;
-      entries = subst (λ L. modules * slots + 1 ≤ L) (sym (length-set (set pages i spare) n (get_or pages i 0) ∙ length-set pages i spare)) sound.entries;
-      room = subst (λ L. (modules * slots + 1) * span ≤ L) (sym long) sound.room;
-      pages = once_from (exchanged pages i n) (n + 1)
-          (exchanged_below pages i n (n + 1) (omega (arith, i_lt)) (omega arith) sound.entries (once_below pages (n + 1) sound.pages))
-          (exchanged_once pages i n (n + 1) (omega (arith, i_lt)) (omega arith) sound.entries (once_once pages (n + 1) sound.pages));
+      entries = subst (λ L. x.size.modules * x.size.slots + 1 ≤ L) (sym (length-set (set map i spare) n (get_or map i 0) ∙ length-set map i spare)) sound.entries;
+      room = subst (λ L. (x.size.modules * x.size.slots + 1) * x.size.length ≤ L) (sym long) sound.room;
+      pages = once_from (exchanged map i n) (n + 1)
+          (exchanged_below map i n (n + 1) (omega (arith, i_lt)) (omega arith) sound.entries (once_below map (n + 1) sound.pages))
+          (exchanged_once map i n (n + 1) (omega (arith, i_lt)) (omega arith) sound.entries (once_once map (n + 1) sound.pages));
     }
 
-    pub turn_puts : (pages' : List ℕ) → pages' ≡ exchanged pages (m * slots + s) (modules * slots)
-        → Puts (turned order modules slots span on pages cells) (turned order modules slots span on pages' cells') m s o v true
-        × TurnSound order modules slots span on pages' cells'
-    turn_puts pages' e =
-        let w = turned order modules slots span on pages cells in
-        let t = takes_laid order modules slots span on (paged slots span pages cells) m s o v hm hs ho hon hv in (
+    pub turn_puts : Puts (turned x map cells) (turned x map' cells') m s o v true × TurnSound x map' cells'
+    turn_puts =
+        let w = turned x map cells in let t = takes_laid (paged x.size map cells) inside hv in (
           record {
             answer = sym t;
-            after = ap (λ y. turned order modules slots span on y cells') e ∙ turn_put ∙ sym (cond-true (takes w m s o v) (stored w m s o v) w t);
+            after = ap (λ y. turned x y cells') turns.entries ∙ turn_put ∙ sym (cond-true (takes w m s o v) (stored w m s o v) w t);
           },
-          subst (λ y. TurnSound order modules slots span on y cells') (sym e) turn_put_sound,
+          subst (λ y. TurnSound x y cells') (sym turns.entries) turn_put_sound,
         )
 
 -- another module's entries are not this module's
-apart_modules : (modules slots : ℕ) (pages : List ℕ) (m m' s s' : ℕ) → m < modules → m' < modules → s < slots → s' < slots → m' ≢ m
-    → Once pages (modules * slots + 1) → get_or pages (m' * slots + s') 0 ≢ get_or pages (m * slots + s) 0
-apart_modules modules slots pages m m' s s' hm hm' hs hs' n once e =
-    n (same_high m' m slots s' s hs' hs
-    (once (m' * slots + s') (m * slots + s)
-    (omega (arith, slot_lt modules slots m' s' hm' hs'), omega (arith, slot_lt modules slots m s hm hs), e)))
+apart_modules : (size : Size) (map : List ℕ) (m m' s s' : ℕ) → m < size.modules → m' < size.modules → s < size.slots → s' < size.slots → m' ≢ m
+    → Once map (pages_of size) → page_of size map m' s' ≢ page_of size map m s
+apart_modules size map m m' s s' hm hm' hs hs' n once e =
+    n (same_high m' m size.slots s' s hs' hs
+    (once (m' * size.slots + s') (m * size.slots + s)
+    (omega (arith, slot_lt size.modules size.slots m' s' hm' hs'), omega (arith, slot_lt size.modules size.slots m s hm hs), e)))
 
-turn_fit : (order modules slots span m : ℕ) (on : List Bool) (pages cells cells' : List ℕ) → m < modules → m < length on
-    → Once pages (modules * slots + 1)
-    → ((s o : ℕ) → s < slots → o < span → get_or cells' (get_or pages (m * slots + s) 0 * span + o) 0 ≡ 0)
-    → ((p o : ℕ) → o < span → ((s : ℕ) → s < slots → p ≡ get_or pages (m * slots + s) 0 → ⊥) → get_or cells' (p * span + o) 0 ≡ get_or cells (p * span + o) 0)
-    → turned order modules slots span (set on m true) pages cells' ≡ flagged (turned order modules slots span on pages cells) m true
-turn_fit order modules slots span m on pages cells cells' hm hl once zero other =
-    laid_flag order modules slots span m on (paged slots span pages cells) (paged slots span pages cells') true hm hl
-    (λ s o hs ho _. zero s o hs ho)
-    (λ m' s o n hm' hs ho. other (get_or pages (m' * slots + s) 0) o ho (λ s'' hs''. apart_modules modules slots pages m m' s'' s hm hm' hs'' hs n once))
+pub turn_keeps : {x : Shape} {map cells cells' : List ℕ} → TurnSound x map cells → length cells' ≡ length cells → TurnSound x map cells'
+turn_keeps h e = record { numbers = h.numbers; entries = h.entries; room = omega (arith, h.room); pages = h.pages }
 
-pub turn_keeps : {order modules slots span : ℕ} {on on' : List Bool} {pages cells cells' : List ℕ} → TurnSound order modules slots span on pages cells
-    → length on' ≡ length on → length cells' ≡ length cells → TurnSound order modules slots span on' pages cells'
-turn_keeps h a b = record {
-  numbers = fair_flags a h.numbers;
-  entries = h.entries;
-  room = omega (arith, h.room);
-  pages = h.pages;
-}
+pub turn_marked : {x : Shape} {map cells : List ℕ} (m : ℕ) (b : Bool) → TurnSound x map cells → TurnSound (marked x m b) map cells
+turn_marked m b h = record { numbers = fair_marked m b h.numbers; entries = h.entries; room = h.room; pages = h.pages }
 
-pub turn_fits_lem : (x y x' : Shape) (m : ℕ) (pages pages' cells cells' : List ℕ)
-    → TurnSound x.order x.modules x.slots x.span x.on pages cells
-    → true ≡ (ltb m 32 && (ltb m x.modules && not (get_or x.on m false)))
-    → y ≡ marked x m true → x' ≡ y → pages' ≡ pages → length cells' ≡ length cells
-    → ((s o : ℕ) → s < x.slots → o < x.span → get_or cells' (get_or pages (m * x.slots + s) 0 * x.span + o) 0 ≡ 0)
-    → ((p o : ℕ) → o < x.span → ((s : ℕ) → s < x.slots → p ≡ get_or pages (m * x.slots + s) 0 → ⊥)
-    → get_or cells' (p * x.span + o) 0 ≡ get_or cells (p * x.span + o) 0)
-    → Fits (turned x.order x.modules x.slots x.span x.on pages cells)
-    (turned x'.order x'.modules x'.slots x'.span x'.on pages' cells') m true
-    × TurnSound x'.order x'.modules x'.slots x'.span x'.on pages' cells'
-turn_fits_lem x y x' m pages pages' cells cells' h e d f b long zero other =
-    let a : x' ≡ marked x m true = f ∙ d in
-    let p = empty_parts x.modules m x.on e in
-    let w = turned x.order x.modules x.slots x.span x.on pages cells in
-    let t = fits_laid x.order x.modules x.slots x.span m x.on (paged x.slots x.span pages cells) p.0 p.1 in (
-      record {
-        answer = sym t;
-        after = ap (λ y. turned y.order y.modules y.slots y.span y.on pages' cells') a
-            ∙ ap (λ y. turned x.order x.modules x.slots x.span (set x.on m true) y cells') b
-            ∙ turn_fit x.order x.modules x.slots x.span m x.on pages cells cells' p.0
-            (omega (arith, h.numbers.flags, h.numbers.modules_high, p.0)) (once_once pages (x.modules * x.slots + 1) h.pages) zero other
-            ∙ sym (cond-true (fits w m) (flagged w m true) w t);
-      },
-      subst (λ y. TurnSound y.order y.modules y.slots y.span y.on pages' cells') (sym a)
-          (subst (λ y. TurnSound x.order x.modules x.slots x.span (set x.on m true) y cells') (sym b)
-          (turn_keeps h (length-set x.on m true) long)),
+pub turn_fit : (x x' : Shape) (m : ℕ) (map cells cells' : List ℕ) → TurnSound x map cells → true ≡ is_unlike x m true → x' ≡ marked x m true
+    → length cells' ≡ length cells → PagesBlanked x.size m map cells cells'
+    → Fits (turned x map cells) (turned x' map cells') m true × TurnSound x' map cells'
+turn_fit x x' m map cells cells' h e a long blanked =
+    let size = x.size in
+    let p = empty_parts x m e in
+    let w = turned x map cells in
+    let t = fits_laid x m (paged x.size map cells) p.0 p.1 in
+    let same : turned (marked x m true) map cells' ≡ flagged w m true =
+    laid_flag x m (paged size map cells) (paged size map cells') true p.0 (omega (arith, h.numbers.flags, h.numbers.modules_high, p.0))
+    (λ s o hs ho _. blanked.zero s o hs ho)
+    (λ m' s o n hm' hs ho. blanked.others (page_of size map m' s) o ho
+    (λ s'' hs''. apart_modules size map m m' s'' s p.0 hm' hs'' hs n (once_once map (pages_of size) h.pages))) in (
+      record { answer = sym t; after = ap (λ y. turned y map cells') a ∙ same ∙ sym (cond-true (fits w m) (flagged w m true) w t) },
+      subst (λ y. TurnSound y map cells') (sym a) (turn_marked m true (turn_keeps h long)),
     )
 
 -- one page cleared
@@ -281,26 +251,24 @@ module _ (q span : ℕ) (xs ys : List ℕ)
         (λ (e : q * span + span ≤ p * span). over (p * span + o) (omega arith))
         (pages_apart p q span n)
 
--- memory that is not refused is sound, and the other way round
-pub turn_sound : (order modules slots span : ℕ) (on : List Bool) (map cells : List ℕ) → length on ≡ 32 → turn_refusal cells map order modules slots span ≡ None
-    → TurnSound order modules slots span on map cells
-turn_sound order modules slots span on map cells f e =
-    let n : ℕ = modules * slots + 1 in
-    let p = and_parts (fair order modules slots span) (leb (n * span) (length cells) && (leb n (length map) && each_once map n n)) (unless_none (turn_fits cells map order modules slots span) e) in
-    let q = and_parts (leb (n * span) (length cells)) (leb n (length map) && each_once map n n) p.1 in
-    let r = and_parts (leb n (length map)) (each_once map n n) q.1 in
-    record {
-      numbers = fair_parts order modules slots span on f p.0;
-      entries = leb-true n (length map) r.0;
-      room = leb-true (n * span) (length cells) q.0;
-      pages = r.1;
-    }
+-- entries from the first of a module up to that of the next
+pub pages_blanked : (size : Size) (m first end : ℕ) (map cells cells' : List ℕ) → first ≡ m * size.slots + 0 → end ≡ m * size.slots + size.slots
+    → ((i k : ℕ) → first ≤ i → i < end → k < size.length → get_or cells' (get_or map i 0 * size.length + k) 0 ≡ 0)
+    → ((p k : ℕ) → k < size.length → ((i : ℕ) → first ≤ i → i < end → p ≢ get_or map i 0)
+    → get_or cells' (p * size.length + k) 0 ≡ get_or cells (p * size.length + k) 0)
+    → PagesBlanked size m map cells cells'
+pages_blanked size m first end map cells cells' a b zero others = record {
+  zero = λ s k hs hk. zero (m * size.slots + s) k (omega (arith, a)) (omega (arith, b)) hk;
+  others = λ p k hk n. others p k hk
+      (λ i l u e. let at : i ≡ m * size.slots + (i - m * size.slots) = omega (arith, a) in
+      n (i - m * size.slots) (omega (arith, b, at)) (e ∙ ap (λ q. get_or map q 0) at));
+}
 
-pub turn_unrefused : (order modules slots span : ℕ) (on : List Bool) (map cells : List ℕ) → TurnSound order modules slots span on map cells
-    → turn_refusal cells map order modules slots span ≡ None
-turn_unrefused order modules slots span on map cells h =
-    let n : ℕ = modules * slots + 1 in
-    unless_true (turn_fits cells map order modules slots span)
-    (and_from _ _ (fair_from order modules slots span on h.numbers)
-    (and_from _ _ (le-leb (n * span) (length cells) h.room)
+-- memory that is sound is not refused
+pub turn_unrefused : (x : Shape) (map cells : List ℕ) → TurnSound x map cells → turn_refusal cells map x.size ≡ None
+turn_unrefused x map cells h =
+    let n : ℕ = pages_of x.size in
+    unless_true (turn_fits cells map x.size)
+    (and_from _ _ (fair_from x h.numbers)
+    (and_from _ _ (le-leb (n * x.size.length) (length cells) h.room)
     (and_from _ _ (le-leb n (length map) h.entries) h.pages)))

@@ -1,7 +1,11 @@
 // What both racks do with their cells and numbers.
-ghost use Rattle.std.specs.Prelude.{◌≡◌, ℕ, ◌+◌, ◌*◌, ◌<◌, ◌≤◌, length, nat_lt, slice_index, slice_set};
+ghost use Rattle.std.specs.Prelude.{◌≡◌, ℕ, ◌+◌, ◌*◌, ◌<◌, ◌≤◌, length, Some, None, if◌then◌else◌, nat_lt, slice_index};
+ghost use Rattle.rack.specs.Laid.{low};
+ghost use Rattle.rack.specs.Flat.{at};
 
+use crate::size::Size;
 use layout::refusal::{Layer, Refusal};
+use std::ops::Range;
 
 /// How memory is refused.
 pub(crate) const REFUSED: Refusal = Refusal {
@@ -10,41 +14,52 @@ pub(crate) const REFUSED: Refusal = Refusal {
     place: 0,
 };
 
+/// The number of a slot, counted module after module.
+pub(crate) fn slot_number(size: Size, module: u16, slot: u16) -> usize
+    ensures { result ≡ «module» * size.slots + slot }
+{
+    usize::from(module) * usize::from(size.slots) + usize::from(slot)
+}
+
 /// Where a symbol lies in a row of slots.
-pub(crate) fn place(slots: u16, span: u16, module: u16, slot: u16, offset: u16) -> usize
-    ensures { result ≡ («module» * slots + slot) * span + offset }
+pub(crate) fn place(size: Size, module: u16, slot: u16, offset: u16) -> usize
+    ensures { result ≡ at size «module» slot offset }
 {
-    (module as usize * slots as usize + slot as usize) * span as usize + offset as usize
+    slot_number(size, module, slot) * usize::from(size.length) + usize::from(offset)
 }
 
-/// Where the cells of a module begin.
-pub(crate) fn start(slots: u16, span: u16, module: u16) -> usize
-    ensures { result ≡ «module» * (slots * span) }
+/// How many slots there are in all.
+pub(crate) fn slots_in_all(size: Size) -> usize
+    ensures { result ≡ size.modules * size.slots }
 {
-    module as usize * (slots as usize * span as usize)
+    usize::from(size.modules) * usize::from(size.slots)
 }
 
-/// Writes a number into one cell. False, and nothing done, where the cell is outside.
-pub(crate) fn store(cells: &mut [u16], at: usize, symbol: u16) -> bool
-    ensures answer { result ≡ nat_lt at (length cells.old) }
-    ensures after { cells.new ≡ slice_set cells.old at symbol }
+/// The cells of a module, where the modules lie one after another.
+pub(crate) fn module_cells(size: Size, module: u16) -> Range<usize>
+    ensures start { result.start ≡ «module» * (size.slots * size.length) }
+    ensures end { result.end ≡ «module» * (size.slots * size.length) + size.slots * size.length }
 {
-    if at < cells.len() {
-        cells[at] = symbol;
-        true
-    } else {
-        false
-    }
+    let count = usize::from(size.slots) * usize::from(size.length);
+    let start = usize::from(module) * count;
+    start..start + count
 }
 
-/// Writes 0 from `from` up to `to`, or up to the end where that comes first.
-pub(crate) fn clear(cells: &mut [u16], from: usize, to: usize)
-    ensures zero { (k : ℕ) → from ≤ k → k < to → slice_index cells.new k ≡ 0 }
-    ensures below { (k : ℕ) → k < from → slice_index cells.new k ≡ slice_index cells.old k }
-    ensures above { (k : ℕ) → to ≤ k → slice_index cells.new k ≡ slice_index cells.old k }
+/// The symbol that a cell's number means. None where the cell is outside.
+pub(crate) fn read(cells: &[u16], place: usize, order: u16) -> Option<u16>
+    ensures { result ≡ (if nat_lt place (length cells.now) then Some (low order (slice_index cells.now place)) else None) }
 {
-    let end = to.min(cells.len());
-    for i in from..end {
-        cells[i] = 0;
-    }
+    let number = *cells.get(place)?;
+    Some(if number < order { number } else { 0 })
+}
+
+/// Writes 0 into each cell of a range. What of the range lies past the last cell is of no account.
+#[tactic(auto, using(std::proofs::lemmas::List::places))]
+pub(crate) fn clear(cells: &mut [u16], range: Range<usize>)
+    ensures zero { (k : ℕ) → range.start ≤ k → k < range.end → slice_index cells.new k ≡ 0 }
+    ensures below { (k : ℕ) → k < range.start → slice_index cells.new k ≡ slice_index cells.old k }
+    ensures above { (k : ℕ) → range.end ≤ k → slice_index cells.new k ≡ slice_index cells.old k }
+{
+    let end = range.end.min(cells.len());
+    cells[range.start.min(end)..end].fill(0);
 }

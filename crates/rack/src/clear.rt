@@ -4,6 +4,13 @@ ghost use Rattle.rack.specs.Cleared.{Clears};
 
 use crate::rack::Rack;
 
+/// The symbol at a place; 0 where the place is outside or its module out.
+pub fn symbol<R: Rack>(rack: &R, module: u16, slot: u16, offset: u16) -> u16
+    ensures { R.valid rack.now → result ≡ (R.meaning rack.now).symbol «module» slot offset }
+{
+    rack.get(module, slot, offset).unwrap_or(0)
+}
+
 /// Puts 0 at each offset below `until` of a slot. False, and nothing done, where the slot is outside, its module out, or `until` past the length.
 pub fn clear_slot<R: Rack>(rack: &mut R, module: u16, slot: u16, until: u16) -> bool
     ensures { R.valid rack.old → Clears (R.meaning rack.old) (R.meaning rack.new) «module» slot until result × R.valid rack.new }

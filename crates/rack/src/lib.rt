@@ -9,9 +9,11 @@ pub mod flat;
 mod pages;
 pub mod rack;
 mod shape;
+pub mod size;
 pub mod turning;
 
-pub use clear::clear_slot;
+pub use clear::{clear_slot, symbol};
 pub use flat::FlatRack;
 pub use rack::Rack;
+pub use size::Size;
 pub use turning::TurningRack;

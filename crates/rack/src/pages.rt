@@ -1,6 +1,8 @@
 // What the turning rack does with its pages.
-ghost use Rattle.std.specs.Prelude.{◌≡◌, ℕ, ◌+◌, ◌*◌, ◌<◌, ◌≤◌, true, false, ◌≢◌, ◌⊎◌, length, slice_index};
-ghost use Rattle.rack.specs.Turning.{each_once, exchanged};
+ghost use Rattle.std.specs.Prelude.{◌≡◌, ℕ, ◌+◌, ◌*◌, ◌<◌, ◌≤◌, true, false, ◌≢◌, length, slice_index};
+ghost use Rattle.rack.specs.Turning.{each_once};
+
+use std::ops::Range;
 
 /// Whether the first `pages` entries of a map hold each number below `pages` once.
 pub(crate) fn all_once(map: &[u16], pages: usize) -> bool
@@ -9,8 +11,8 @@ pub(crate) fn all_once(map: &[u16], pages: usize) -> bool
     ensures { result ≡ each_once map.now pages pages }
 {
     let mut seen = [false; 2049];
-    for i in 0..pages {
-        let page = map[i] as usize;
+    for entry in &map[..pages] {
+        let page = usize::from(*entry);
         if page >= pages || seen[page] {
             return false;
         }
@@ -19,41 +21,23 @@ pub(crate) fn all_once(map: &[u16], pages: usize) -> bool
     true
 }
 
-/// Where the cells of a page begin.
-pub(crate) fn page_start(page: u16, span: u16) -> usize
-    ensures { result ≡ page * span }
+/// The cell of an offset of a page.
+pub(crate) fn page_cell(page: u16, span: u16, offset: u16) -> usize
+    ensures { result ≡ page * span + offset }
 {
-    page as usize * span as usize
+    usize::from(page) * usize::from(span) + usize::from(offset)
 }
 
-/// Exchanges the page of a slot with the spare one.
-pub(crate) fn exchange(map: &mut [u16], entry: usize, last: usize)
-    requires entry_within { entry < length map.old }
-    requires last_within { last < length map.old }
-    ensures { map.new ≡ exchanged map.old entry last }
+/// The cells of a page.
+pub(crate) fn page_cells(page: u16, span: u16) -> Range<usize>
+    ensures start { result.start ≡ page * span }
+    ensures end { result.end ≡ page * span + span }
 {
-    let page = map[entry];
-    let spare = map[last];
-    map[entry] = spare;
-    map[last] = page;
-}
-
-/// Copies `span` cells from `from` to `to`.
-fn copy_page(cells: &mut [u16], from: usize, to: usize, span: usize)
-    requires reads { from + span ≤ length cells.old }
-    requires writes { to + span ≤ length cells.old }
-    requires apart { (from + span ≤ to) ⊎ (to + span ≤ from) }
-    ensures copied { (k : ℕ) → k < span → slice_index cells.new (to + k) ≡ slice_index cells.old (from + k) }
-    ensures below { (k : ℕ) → k < to → slice_index cells.new k ≡ slice_index cells.old k }
-    ensures above { (k : ℕ) → to + span ≤ k → slice_index cells.new k ≡ slice_index cells.old k }
-{
-    for i in 0..span {
-        let v = cells[from + i];
-        cells[to + i] = v;
-    }
+    page_cell(page, span, 0)..page_cell(page, span, span)
 }
 
 /// Writes a page anew into the spare one, with one symbol changed. False, and nothing done, where the cells do not hold two such pages.
+/// It answers a bool since the trait's `put` does.
 pub(crate) fn turn(
     cells: &mut [u16],
     page: u16,
@@ -69,13 +53,12 @@ pub(crate) fn turn(
     ensures kept { result ≡ true → (p k : ℕ) → k < span → p ≢ spare → slice_index cells.new (p * span + k) ≡ slice_index cells.old (p * span + k) }
     ensures none { result ≡ false → cells.new ≡ cells.old }
 {
-    let width = span as usize;
-    let from = page as usize * width;
-    let to = spare as usize * width;
-    if page == spare || from + width > cells.len() || to + width > cells.len() {
+    let from = page_cells(page, span);
+    let to = page_cells(spare, span);
+    if page == spare || from.end > cells.len() || to.end > cells.len() {
         return false;
     }
-    copy_page(cells, from, to, width);
-    cells[to + offset as usize] = symbol;
+    cells.copy_within(from, to.start);
+    cells[page_cell(spare, span, offset)] = symbol;
     true
 }

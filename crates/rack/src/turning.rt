@@ -1,12 +1,14 @@
 // A rack whose slots lie in pages of lent cells, and whose pages turn.
-ghost use Rattle.std.specs.Prelude.{◌≡◌, true, false, replicate, Some, None, MatchBool, MatchResult};
+ghost use Rattle.std.specs.Prelude.{◌≡◌, true, false, None, MatchBool, MatchResult};
 ghost use Rattle.rack.specs.Meaning.{Puts, Pulls, Fits};
-ghost use Rattle.rack.specs.Turning.{turned, turn_refusal, TurnSound, Turns, PagesBlanked, turn_bounded};
+ghost use Rattle.rack.specs.Shaped.{full};
+ghost use Rattle.rack.specs.Turning.{turned, turn_refusal, Turns, PagesBlanked, turn_bounded, Sound, meaning_of};
 
-use crate::cells::{REFUSED, clear};
-use crate::pages::{all_once, exchange, page_start, turn};
+use crate::cells::{REFUSED, clear, read, slot_number, slots_in_all};
+use crate::pages::{all_once, page_cell, page_cells, turn};
 use crate::rack::Rack;
 use crate::shape::Shape;
+use crate::size::Size;
 use layout::refusal::Refusal;
 
 /// A rack over lent cells and a lent map of pages, with one page more than it has slots. The map has the page of each slot, module after module,
@@ -20,52 +22,34 @@ pub struct TurningRack<'a> {
 }
 
 impl<'a> TurningRack<'a> {
-    /// Says whether cells and a map can serve as a rack of these numbers: one to 32 modules of one to 64 slots of one to 4096 offsets,
-    /// an order of 2 or more, cells for each page, and each page once in the map.
-    pub fn check(
-        cells: &[u16],
-        map: &[u16],
-        order: u16,
-        modules: u16,
-        slots: u16,
-        length: u16,
-    ) -> Result<(), Refusal>
-        ensures { MatchResult result (λ _. turn_refusal cells.now map.now order modules slots length ≡ None) (λ e. turn_refusal cells.now map.now order modules slots length ≡ Some e) }
+    /// Says whether cells and a map can serve as a rack of these numbers: they are in their bounds, there are cells for each page,
+    /// and each page stands once in the map.
+    pub fn check(cells: &[u16], map: &[u16], size: Size) -> Result<(), Refusal>
+        ensures { MatchResult result (λ _. turn_refusal cells.now map.now size ≡ None) (λ e. turn_refusal cells.now map.now size ≡ Some e) }
     {
-        if !Shape::in_bounds(order, modules, slots, length) {
-            return Err(REFUSED);
+        let pages = slots_in_all(size) + 1;
+        if size.is_fair()
+            && cells.len() >= pages * usize::from(size.length)
+            && map.len() >= pages
+            && all_once(map, pages)
+        {
+            Ok(())
+        } else {
+            Err(REFUSED)
         }
-        let pages = modules as usize * slots as usize + 1;
-        if cells.len() < pages * length as usize {
-            return Err(REFUSED);
-        }
-        if map.len() < pages {
-            return Err(REFUSED);
-        }
-        if !all_once(map, pages) {
-            return Err(REFUSED);
-        }
-        Ok(())
     }
 
     /// Makes a rack of cells and a map that the check does not refuse, with all modules fitted. It writes nothing.
-    pub fn new(
-        cells: &'a mut [u16],
-        map: &'a mut [u16],
-        order: u16,
-        modules: u16,
-        slots: u16,
-        length: u16,
-    ) -> TurningRack<'a>
-        requires { turn_refusal cells.old map.old order modules slots length ≡ None }
-        ensures valid { TurnSound result.shape.order result.shape.modules result.shape.slots result.shape.span result.shape.on result.map.now result.cells.now }
-        ensures means { turned result.shape.order result.shape.modules result.shape.slots result.shape.span result.shape.on result.map.now result.cells.now ≡ turned order modules slots length (replicate 32 true) map.old cells.old }
+    pub fn new(cells: &'a mut [u16], map: &'a mut [u16], size: Size) -> TurningRack<'a>
+        requires { turn_refusal cells.old map.old size ≡ None }
+        ensures valid { Sound result }
+        ensures means { meaning_of result ≡ turned (full size) map.old cells.old }
         ensures memory { (result.cells.now ≡ cells.old) × (result.map.now ≡ map.old) }
     {
         TurningRack {
             cells,
             map,
-            shape: Shape::new(order, modules, slots, length),
+            shape: Shape::new(size),
         }
     }
 
@@ -83,26 +67,26 @@ impl<'a> TurningRack<'a> {
 }
 
 impl Rack for TurningRack<'_> {
-    ghost valid = { λ f. TurnSound f.shape.order f.shape.modules f.shape.slots f.shape.span f.shape.on f.map.now f.cells.now };
+    ghost valid = { Sound };
 
-    ghost meaning = { λ f. turned f.shape.order f.shape.modules f.shape.slots f.shape.span f.shape.on f.map.now f.cells.now };
+    ghost meaning = { meaning_of };
 
-    ghost bounded = { λ f h. turn_bounded f.shape.order f.shape.modules f.shape.slots f.shape.span f.shape.on f.map.now f.cells.now h };
+    ghost bounded = { λ f h. turn_bounded f.shape f.map.now f.cells.now h };
 
     fn order(&self) -> u16 {
-        self.shape.order
+        self.shape.size.order
     }
 
     fn modules(&self) -> u16 {
-        self.shape.modules
+        self.shape.size.modules
     }
 
     fn slots(&self) -> u16 {
-        self.shape.slots
+        self.shape.size.slots
     }
 
     fn length(&self) -> u16 {
-        self.shape.span
+        self.shape.size.length
     }
 
     fn ask(&self, module: u16) -> bool {
@@ -113,69 +97,56 @@ impl Rack for TurningRack<'_> {
         if !self.shape.holds(module, slot, offset) {
             return None;
         }
-        let entry = module as usize * self.shape.slots as usize + slot as usize;
-        if entry >= self.map.len() {
-            return None;
-        }
-        let at = page_start(self.map[entry], self.shape.span) + offset as usize;
-        if at >= self.cells.len() {
-            return None;
-        }
-        let v = self.cells[at];
-        if v < self.shape.order {
-            Some(v)
-        } else {
-            Some(0)
-        }
+        let size = self.shape.size;
+        let page = *self.map.get(slot_number(size, module, slot))?;
+        read(self.cells, page_cell(page, size.length, offset), size.order)
     }
 
     fn put(&mut self, module: u16, slot: u16, offset: u16, symbol: u16) -> bool
-        ensures puts { TurnSound self.old.shape.order self.old.shape.modules self.old.shape.slots self.old.shape.span self.old.shape.on self.old.map.now self.old.cells.now → Puts (turned self.old.shape.order self.old.shape.modules self.old.shape.slots self.old.shape.span self.old.shape.on self.old.map.now self.old.cells.now) (turned self.new.shape.order self.new.shape.modules self.new.shape.slots self.new.shape.span self.new.shape.on self.new.map.now self.new.cells.now) «module» slot offset symbol result × TurnSound self.new.shape.order self.new.shape.modules self.new.shape.slots self.new.shape.span self.new.shape.on self.new.map.now self.new.cells.now }
-        ensures turns { result ≡ true → Turns self.old.shape.modules self.old.shape.slots self.old.shape.span self.old.map.now self.new.map.now self.old.cells.now self.new.cells.now «module» slot offset symbol }
+        ensures puts { Sound self.old → Puts (meaning_of self.old) (meaning_of self.new) «module» slot offset symbol result × Sound self.new }
+        ensures turns { result ≡ true → Turns self.old.shape.size self.old.map.now self.new.map.now self.old.cells.now self.new.cells.now «module» slot offset symbol }
         ensures kept { result ≡ false → (self.new.cells.now ≡ self.old.cells.now) × (self.new.map.now ≡ self.old.map.now) }
     {
-        if !self.shape.takes(module, slot, offset, symbol) {
+        let size = self.shape.size;
+        let last = slots_in_all(size);
+        if !self.shape.takes(module, slot, offset, symbol) || last >= self.map.len() {
             return false;
         }
-        let last = self.shape.modules as usize * self.shape.slots as usize;
-        if last >= self.map.len() {
-            return false;
-        }
-        let entry = module as usize * self.shape.slots as usize + slot as usize;
+        let entry = slot_number(size, module, slot);
         let page = self.map[entry];
         let spare = self.map[last];
-        let span = self.shape.span;
-        if !turn(self.cells, page, spare, span, offset, symbol) {
+        if !turn(self.cells, page, spare, size.length, offset, symbol) {
             return false;
         }
-        exchange(self.map, entry, last);
+        self.map.swap(entry, last);
         true
     }
 
     fn pull(&mut self, module: u16) -> bool
-        ensures pulls { TurnSound self.old.shape.order self.old.shape.modules self.old.shape.slots self.old.shape.span self.old.shape.on self.old.map.now self.old.cells.now → Pulls (turned self.old.shape.order self.old.shape.modules self.old.shape.slots self.old.shape.span self.old.shape.on self.old.map.now self.old.cells.now) (turned self.new.shape.order self.new.shape.modules self.new.shape.slots self.new.shape.span self.new.shape.on self.new.map.now self.new.cells.now) «module» result × TurnSound self.new.shape.order self.new.shape.modules self.new.shape.slots self.new.shape.span self.new.shape.on self.new.map.now self.new.cells.now }
+        ensures pulls { Sound self.old → Pulls (meaning_of self.old) (meaning_of self.new) «module» result × Sound self.new }
         ensures kept { (self.new.cells.now ≡ self.old.cells.now) × (self.new.map.now ≡ self.old.map.now) }
     {
-        self.shape.pull(module)
+        self.shape.mark(module, false)
     }
 
     fn fit(&mut self, module: u16) -> bool
-        ensures fits { TurnSound self.old.shape.order self.old.shape.modules self.old.shape.slots self.old.shape.span self.old.shape.on self.old.map.now self.old.cells.now → Fits (turned self.old.shape.order self.old.shape.modules self.old.shape.slots self.old.shape.span self.old.shape.on self.old.map.now self.old.cells.now) (turned self.new.shape.order self.new.shape.modules self.new.shape.slots self.new.shape.span self.new.shape.on self.new.map.now self.new.cells.now) «module» result × TurnSound self.new.shape.order self.new.shape.modules self.new.shape.slots self.new.shape.span self.new.shape.on self.new.map.now self.new.cells.now }
-        ensures cells { MatchBool result (PagesBlanked self.old.shape.slots self.old.shape.span «module» self.old.map.now self.old.cells.now self.new.cells.now) (self.new.cells.now ≡ self.old.cells.now) }
+        ensures fits { Sound self.old → Fits (meaning_of self.old) (meaning_of self.new) «module» result × Sound self.new }
+        ensures cells { MatchBool result (PagesBlanked self.old.shape.size «module» self.old.map.now self.old.cells.now self.new.cells.now) (self.new.cells.now ≡ self.old.cells.now) }
         ensures map { self.new.map.now ≡ self.old.map.now }
     {
-        let slots = self.shape.slots as usize;
-        let span = self.shape.span;
-        let first = module as usize * slots;
-        if first + slots > self.map.len() {
+        let size = self.shape.size;
+        let first = slot_number(size, module, 0);
+        let end = slot_number(size, module, size.slots);
+        if end > self.map.len() {
             return false;
         }
-        if !self.shape.fit(module) {
+        if !self.shape.mark(module, true) {
             return false;
         }
-        for slot in 0..slots {
-            let from = page_start(self.map[first + slot], span);
-            clear(self.cells, from, from + span as usize);
+        // By index: a loop over `&self.map[first..end]` that writes `self.cells` is not covered by the borrow checker (five forms tried).
+        for entry in first..end {
+            let page = self.map[entry];
+            clear(self.cells, page_cells(page, size.length));
         }
         true
     }

@@ -1,28 +1,29 @@
-use Rattle.std.proofs.Common.{◌<◌, length, get_or, set, sym, refl, ap, ◌∙◌, arith}
-use Rattle.std.proofs.lemmas.Bool.{cond-true, lt-ltb}
+use Rattle.std.proofs.Common.{rules, get_or, set, sym, ap, ◌∙◌, arith, length-set}
+use Rattle.std.proofs.lemmas.Bool.{cond-true}
 use Rattle.rack.specs.Flat.{at, flat}
 use Rattle.rack.proofs.Laids.{takes_parts, takes_laid}
-use Rattle.rack.proofs.Flats.{place_lt, flat_put, flat_keeps, stored_cells}
+use Rattle.rack.proofs.Flats.{place_lt, flat_put, flat_keeps}
 use Rattle.rack.proofs.flat.FlatRackRack.put.Goals as goal
+use Rattle.rack.proofs.flat.FlatRackRack.put.Goals.{then-not-takes-via-then-not-takes, then-not-takes-via-else-not-takes+then-at-self}
 
-pub returns : goal.returns
-returns c =
+pub returns-then-not-takes-clause-puts : goal.returns-then-not-takes-clause-puts
+returns-then-not-takes-clause-puts c h =
+    elim c.then-not-takes.branch [
+      | then-not-takes-via-then-not-takes w ↦ let high = h.numbers.modules_high in search rules
+      | then-not-takes-via-else-not-takes+then-at-self w ↦
+          let p = takes_parts c.args.self.now.shape c.args.module c.args.slot c.args.offset c.args.symbol w.if-not-takes.ensures in
+          absurd (omega (arith, place_lt p.0, h.room, c.place-at.ensures, w.if-at-self.true))
+    ]
+
+pub returns-clause-puts : goal.returns-clause-puts
+returns-clause-puts c h =
     let x = c.args.self.now.shape in let cells = c.args.self.now.cells.now in
     let m = c.args.module in let s = c.args.slot in let o = c.args.offset in let v = c.args.symbol in
-    let p = takes_parts x.order x.modules x.slots x.span x.on m s o v c.if-not-takes.ensures in
-    let t = takes_laid x.order x.modules x.slots x.span x.on (λ a b d. get_or cells (at x.slots x.span a b d) 0) m s o v p.0 p.1 p.2 p.3 p.4 in
-    record {
-      puts = λ h.
-          let lt : c.place-at.result < length cells =
-          omega (arith, place_lt x.modules x.slots x.span m s o p.0 p.1 p.2, h.room, c.place-at.ensures) in (
-            record {
-              answer = c.store.ensures.answer ∙ lt-ltb c.place-at.result (length cells) lt ∙ sym t;
-              after = ap (flat x.order x.modules x.slots x.span x.on) c.store.ensures.after
-                  ∙ ap (λ a. flat x.order x.modules x.slots x.span x.on (set cells a v)) c.place-at.ensures
-                  ∙ flat_put x.order x.modules x.slots x.span x.on cells m s o v p.0 p.1 p.2 p.3 p.4 h.room
-                  ∙ sym (cond-true _ _ _ t);
-            },
-            flat_keeps h refl c.store.auto.cells,
-          );
-      cells = stored_cells cells c.store.new.cells c.place-at.result _ v c.store.result c.place-at.ensures c.store.ensures.answer c.store.ensures.after;
-    }
+    let p = takes_parts x m s o v c.if-not-takes.ensures in
+    let t = takes_laid (λ a b d. get_or cells (at x.size a b d) 0) p.0 p.1 in (
+      record {
+        answer = sym t;
+        after = ap (λ i. flat x (set cells i v)) c.place-at.ensures ∙ flat_put x cells m s o v p.0 p.1 h.room ∙ sym (cond-true _ _ _ t);
+      },
+      flat_keeps h (length-set cells c.place-at.result v),
+    )

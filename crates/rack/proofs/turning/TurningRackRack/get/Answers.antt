@@ -1,18 +1,22 @@
-use Rattle.std.proofs.Common.{◌+◌, ◌*◌, ◌<◌, arith}
-use Rattle.rack.proofs.Laids.{slot_lt, holds_parts}
+use Rattle.std.proofs.Common.{◌≡◌, ◌+◌, ◌*◌, get_or, ap, ◌∙◌, arith}
+use Rattle.rack.specs.Turning.{paged, pages_of, page_of}
+use Rattle.rack.proofs.Laids.{slot_lt, holds_parts, read_laid}
 use Rattle.rack.proofs.Turns.{page_lt, once_below}
 use Rattle.rack.proofs.turning.TurningRackRack.get.Goals as goal
 
-pub returns-then-entry-self : goal.returns-then-entry-self
-returns-then-entry-self c h =
-    let x = c.args.self.now.shape in let m = c.args.module in let s = c.args.slot in let o = c.args.offset in
-    let p = holds_parts x.modules x.slots x.span x.on m s o c.if-not-holds.ensures in
-    absurd (omega (arith, slot_lt x.modules x.slots m s p.0 p.1, h.entries, c.if-entry-self.true))
+pub returns-in_err-page : goal.returns-in_err-page
+returns-in_err-page c h =
+    let x = c.args.self.now.shape in let m = c.args.module in let s = c.args.slot in
+    let p = holds_parts x m s c.args.offset c.if-not-holds.ensures in
+    absurd (omega (arith, slot_lt x.size.modules x.size.slots m s p.module_inside p.slot_inside, h.entries, c.slot_number.ensures, c.in_err-page.ensures.lookup.3))
 
-pub returns-then-at-self : goal.returns-then-at-self
-returns-then-at-self c h =
-    let x = c.args.self.now.shape in let map = c.args.self.now.map.now in
-    let m = c.args.module in let s = c.args.slot in let o = c.args.offset in let n = x.modules * x.slots + 1 in
-    let p = holds_parts x.modules x.slots x.span x.on m s o c.if-not-holds.ensures in
-    let lt : m * x.slots + s < x.modules * x.slots + 1 = omega (arith, slot_lt x.modules x.slots m s p.0 p.1) in
-    absurd (omega (arith, page_lt (once_below map n h.pages (m * x.slots + s) lt) p.2 h.room, c.page_start.ensures, c.if-at-self.true))
+pub returns : goal.returns
+returns c h =
+    let x = c.args.self.now.shape in let map = c.args.self.now.map.now in let cells = c.args.self.now.cells.now in
+    let m = c.args.module in let s = c.args.slot in let o = c.args.offset in
+    let p = holds_parts x m s o c.if-not-holds.ensures in
+    let page : c.in_ok-page.field-0.now ≡ page_of x.size map m s = c.in_ok-page.ensures.lookup.3.1 0 ∙ ap (λ i. get_or map i 0) c.slot_number.ensures in
+    let at : c.page_cell.result ≡ page_of x.size map m s * x.size.length + o = c.page_cell.ensures ∙ ap (λ q. q * x.size.length + o) page in
+    let lt = once_below map (pages_of x.size) h.pages (m * x.size.slots + s) (omega (arith, slot_lt x.size.modules x.size.slots m s p.module_inside p.slot_inside)) in
+    c.read.ensures
+    ∙ read_laid (paged x.size map cells) cells c.page_cell.result p (omega (arith, page_lt lt p.offset_inside h.room, at)) (ap (λ i. get_or cells i 0) at)
