@@ -1,6 +1,5 @@
 pub mod Labels
 pub mod Printing
-pub mod Blanks
 pub mod Plans
 pub mod Calling
 pub mod Parts

@@ -131,7 +131,7 @@ pub alike : (c : Command) → ((x : RackCall) → c ≡ OnRack x → ⊥) → ((
 alike (Plan q d r d' r' L) a b x y = tt
 alike Map a b x y = tt
 alike (Label after) a b x y = tt
-alike (Rack kind q m s n) a b x y = tt
+alike (Rack kind size) a b x y = tt
 alike (OnRack c) a b x y = absurd (a c refl)
 alike (Lay f) a b x y = tt
 alike (Open f bytes) a b x y = tt

@@ -3,7 +3,7 @@ use Rattle.std.specs.Prelude.{◌≡◌, ℕ, true, List, IfSome, Some, None, Ok
 use Rattle.field.specs.Arithmetic.{Arithmetic}
 use Rattle.layout.specs.declared.plan.Plan.{Plan}
 use Rattle.layout.specs.declared.refusal.Refusal.{Refusal}
-use Rattle.rack.specs.Laid.{fair, unless}
+use Rattle.rack.specs.Laid.{blank, fair, unless}
 use Rattle.rack.specs.Meaning.{Meaning}
 use Rattle.pool.specs.declared.kinds.Call.{Call}
 use Rattle.pool.specs.declared.pool.Pool.{Pool}
@@ -24,7 +24,7 @@ use Rattle.player.specs.declared.request.Wanted.TheVariants.{Lay, Open}
 use Rattle.player.specs.declared.request.Request.{Request}
 use Rattle.player.specs.declared.request.Request.TheVariants as request
 use Rattle.player.specs.Texts.{refused_text}
-use Rattle.player.specs.Answers.{Memory, nothing, bare, pooled, rack_in, arithmetic_of, blank_rack, got_text, done_text, asked_text, label_bytes, opened_over}
+use Rattle.player.specs.Answers.{Memory, nothing, bare, pooled, rack_in, arithmetic_of, got_text, done_text, asked_text, label_bytes, opened_over}
 
 -- the text of what a call on the rack came to
 abbrev pub outcome_text : Outcome → List ℕ
@@ -62,7 +62,7 @@ started_on s (Some w) = started s w
 -- the memory after a line: what the line asks for, or else what is there
 abbrev pub memory_by : Option Request → Memory → Memory
 memory_by None m = m
-memory_by (Some (request.Rack q)) m = bare (blank_rack q.order q.modules q.slots q.length)
+memory_by (Some (request.Rack q)) m = bare (blank q.size)
 memory_by (Some (request.Pool s)) m = started_on s (rack_in m)
 
 -- a start over a field of order q that the check does not refuse
@@ -76,7 +76,7 @@ Startable s w = Fits s.by (arithmetic_of s.field).order w
 -- what is asked for can be had: a rack has its numbers in their bounds, a pool has a rack that fits it
 abbrev pub Possible : Option Request → Option Meaning → Type 0
 Possible None o = Unit {0}
-Possible (Some (request.Rack q)) o = fair q.order q.modules q.slots q.length ≡ true
+Possible (Some (request.Rack q)) o = fair q.size ≡ true
 Possible (Some (request.Pool s)) o = MatchOption o ⊥ (Startable s)
 
 -- a rack that is given back, with what is asked for over it
@@ -91,7 +91,7 @@ PlanSet old (Err e) new text = (new ≡ old) × (text ≡ refused_text e)
 -- what a line that asks for a rack asks and answers
 abbrev pub RackAsked : RackRequest → Option Request → List ℕ → Type 0
 RackAsked q r text =
-    MatchOption (unless (fair q.order q.modules q.slots q.length)) ((r ≡ Some (request.Rack q)) × (text ≡ codes "ok")) (λ e. (r ≡ None) × (text ≡ refused_text e))
+    MatchOption (unless (fair q.size)) ((r ≡ Some (request.Rack q)) × (text ≡ codes "ok")) (λ e. (r ≡ None) × (text ≡ refused_text e))
 
 -- why a pool is refused that a line wants over a field of order q and a rack
 abbrev pub wanted_refusal : Wanted → ℕ → Meaning → Option Refusal
@@ -123,7 +123,7 @@ call_in None = None
 call_in (Some (command.Plan q d r d' r' L)) = None
 call_in (Some command.Map) = None
 call_in (Some (command.Label flag)) = None
-call_in (Some (command.Rack kind q m s n)) = None
+call_in (Some (command.Rack kind size)) = None
 call_in (Some (command.OnRack c)) = None
 call_in (Some (command.Lay f)) = None
 call_in (Some (command.Open f bytes)) = None
@@ -136,7 +136,7 @@ abbrev pub IsAlike : Command → Type 0
 IsAlike (command.Plan q d r d' r' L) = Unit {0}
 IsAlike command.Map = Unit {0}
 IsAlike (command.Label flag) = Unit {0}
-IsAlike (command.Rack kind q m s n) = Unit {0}
+IsAlike (command.Rack kind size) = Unit {0}
 IsAlike (command.OnRack c) = ⊥
 IsAlike (command.Lay f) = Unit {0}
 IsAlike (command.Open f bytes) = Unit {0}

@@ -1,10 +1,10 @@
 -- A script that is being played, part by part. Assumes nothing.
 use Rattle.std.specs.Prelude.{◌≡◌, ℕ, ◌<◌, ◌≤◌, cond, List, [], ◌∷◌, ◌++◌, length, true, IfSome, Some, None, Option, MatchOption}
-use Rattle.rack.specs.Laid.{fair}
+use Rattle.rack.specs.Laid.{blank, fair}
 use Rattle.script.specs.declared.command.Command.{Command}
 use Rattle.player.specs.declared.request.RackRequest.{RackRequest}
 use Rattle.player.specs.declared.session.Session.{Session}
-use Rattle.player.specs.Answers.{Memory, nothing, bare, blank_rack, State, state}
+use Rattle.player.specs.Answers.{Memory, nothing, bare, State, state}
 use Rattle.player.specs.Transcripts.{lines, passed_over, Printed}
 
 -- the lines that are not passed over
@@ -43,8 +43,8 @@ pub record Ends {L A : Type 0} (asked : Option A) (b e : Session L) : Type 0 whe
 -- the memory that a session goes on with after its rack: the rack that is asked for
 abbrev pub next_memory : Option RackRequest → Memory
 next_memory None = nothing
-next_memory (Some q) = bare (blank_rack q.order q.modules q.slots q.length)
+next_memory (Some q) = bare (blank q.size)
 
 -- a rack that is asked for has its numbers in their bounds
 abbrev pub Makeable : Option RackRequest → Type 0
-Makeable o = IfSome o (λ q. fair q.order q.modules q.slots q.length ≡ true)
+Makeable o = IfSome o (λ q. fair q.size ≡ true)

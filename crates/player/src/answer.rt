@@ -10,7 +10,7 @@ use crate::{pools, racks, text};
 use field::Field;
 use layout::label::Label;
 use layout::plan::Plan;
-use layout::refusal::Refusal;
+use layout::refusal::{Layer, Refusal};
 use pool::pool::Pool;
 use rack::Rack;
 use script::command::Command;
@@ -60,17 +60,18 @@ fn show_label(heap: Global, plan: Option<Plan>, after: bool) -> Result<String, A
 fn ask_rack(heap: Global, request: RackRequest) -> Result<Response, AllocError>
     ensures { IfOk result (λ a. RackAsked request a.request (string_bytes a.text)) }
 {
-    match racks::rack_refusal(
-        request.order,
-        request.modules,
-        request.slots,
-        request.length,
-    ) {
-        None => Ok(Response {
+    if request.size.is_fair() {
+        Ok(Response {
             text: String::from_str(heap, "ok")?,
             request: Some(Request::Rack(request)),
-        }),
-        Some(refusal) => Ok(Response::only(text::refused(heap, refusal)?)),
+        })
+    } else {
+        let refusal = Refusal {
+            number: 1,
+            layer: Layer::Rack,
+            place: 0,
+        };
+        Ok(Response::only(text::refused(heap, refusal)?))
     }
 }
 
@@ -91,16 +92,7 @@ fn respond_alike<R: Rack>(
         }
         Command::Map => Ok(Response::only(show_plan(heap, plan)?)),
         Command::Label(after) => Ok(Response::only(show_label(heap, *plan, after)?)),
-        Command::Rack(kind, order, modules, slots, length) => {
-            let request = RackRequest {
-                kind,
-                order,
-                modules,
-                slots,
-                length,
-            };
-            Ok(ask_rack(heap, request)?)
-        }
+        Command::Rack(kind, size) => Ok(ask_rack(heap, RackRequest { kind, size })?),
         Command::Lay(field) => Ok(pools::ask_lay(heap, *plan, rack, field)?),
         Command::Open(field, bytes) => Ok(pools::ask_pool(heap, field, Wanted::Open(bytes), rack)?),
         Command::OnRack(_) | Command::OnPool(_) | Command::Show | Command::PoolLabel =>

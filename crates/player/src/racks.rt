@@ -1,11 +1,9 @@
 // Calls on the rack in use.
 ghost use Rattle.std.specs.Prelude.{◌≡◌};
-ghost use Rattle.rack.specs.Laid.{fair, unless};
 ghost use Rattle.player.specs.Answers.{called_text, called, rack_text, rack_after};
 ghost use Rattle.player.specs.Holding.{alone, outcome_text, Ready};
 ghost use Rattle.std.specs.Option.{option_map};
 
-use layout::refusal::{Layer, Refusal};
 use rack::Rack;
 use script::command::RackCall;
 use std::fmt;
@@ -63,27 +61,5 @@ impl fmt::Display for Outcome {
             Outcome::Fitted(false) => f.write_str("out"),
             Outcome::NoRack => f.write_str("no rack"),
         }
-    }
-}
-
-/// Why a rack with these numbers is refused; memory for it is made to fit.
-pub fn rack_refusal(order: u16, modules: u16, slots: u16, length: u16) -> Option<Refusal>
-    ensures { result ≡ unless (fair order modules slots length) }
-{
-    let fair = order >= 2
-        && modules >= 1
-        && modules <= 32
-        && slots >= 1
-        && slots <= 64
-        && length >= 1
-        && length <= 4096;
-    if fair {
-        None
-    } else {
-        Some(Refusal {
-            number: 1,
-            layer: Layer::Rack,
-            place: 0,
-        })
     }
 }

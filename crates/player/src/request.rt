@@ -3,16 +3,14 @@ ghost use Rattle.std.specs.Prelude.{◌≡◌, None};
 
 use layout::label::Label;
 use layout::plan::Plan;
+use rack::Size;
 use script::command::{FieldKind, RackKind};
 
 /// A rack that a line asks for.
 #[derive(Clone, Copy)]
 pub struct RackRequest {
     pub kind: RackKind,
-    pub order: u16,
-    pub modules: u16,
-    pub slots: u16,
-    pub length: u16,
+    pub size: Size,
 }
 
 /// What a line wants a pool to be started by.

@@ -1,7 +1,7 @@
 // What is printed for a script.
 ghost use Rattle.std.specs.Prelude.{◌≡◌, ℕ, ◌<◌, true, length, IfOk, None, slice_index};
-ghost use Rattle.rack.specs.Laid.{fair};
-ghost use Rattle.player.specs.Answers.{state, nothing, bare, blank_rack};
+ghost use Rattle.rack.specs.Laid.{blank, fair};
+ghost use Rattle.player.specs.Answers.{state, nothing, bare};
 ghost use Rattle.player.specs.Sessions.{Plays, Ends, Makeable, next_memory};
 ghost use Rattle.player.specs.Transcripts.{lines, Printed};
 
@@ -22,27 +22,22 @@ fn ordered(heap: Global, pages: u16) -> Result<Vec<u16>, AllocError>
 impl<L: Language> Session<'_, L> {
     // Makes the rack that is asked for, over memory of its own, and plays the lines for it.
     fn play_on(&mut self, request: RackRequest) -> Result<Option<RackRequest>, AllocError>
-        requires { fair request.order request.modules request.slots request.length ≡ true }
-        ensures { IfOk result (λ asked. Makeable asked × Ends asked self.old self.new × Plays L.writes self.old (bare (blank_rack request.order request.modules request.slots request.length)) self.new (next_memory asked)) }
+        requires { fair request.size ≡ true }
+        ensures { IfOk result (λ asked. Makeable asked × Ends asked self.old self.new × Plays L.writes self.old (bare (blank request.size)) self.new (next_memory asked)) }
     {
-        let RackRequest {
-            kind,
-            order,
-            modules,
-            slots,
-            length,
-        } = request;
-        let slots_in_all = modules as usize * slots as usize;
+        let RackRequest { kind, size } = request;
+        let slots_in_all = usize::from(size.modules) * usize::from(size.slots);
+        let length = usize::from(size.length);
         match kind {
             RackKind::Flat => {
-                let mut cells = vec![in self.heap; 0u16; slots_in_all * length as usize]?;
-                let rack = FlatRack::new(&mut cells, order, modules, slots, length);
+                let mut cells = vec![in self.heap; 0u16; slots_in_all * length]?;
+                let rack = FlatRack::new(&mut cells, size);
                 self.play(Some(rack))
             }
             RackKind::Turning => {
-                let mut cells = vec![in self.heap; 0u16; (slots_in_all + 1) * length as usize]?;
-                let mut map = ordered(self.heap, modules * slots + 1)?;
-                let rack = TurningRack::new(&mut cells, &mut map, order, modules, slots, length);
+                let mut cells = vec![in self.heap; 0u16; (slots_in_all + 1) * length]?;
+                let mut map = ordered(self.heap, size.modules * size.slots + 1)?;
+                let rack = TurningRack::new(&mut cells, &mut map, size);
                 self.play(Some(rack))
             }
         }

@@ -43,7 +43,7 @@ given : (text : List ℕ) (c : Command) → Arguments text c → Given (name_of 
 given text (Plan q d r d' r' L) h = (q ∷ d ∷ r ∷ d' ∷ r' ∷ L ∷ [], refl, h)
 given text Map h = ([], refl, h)
 given text (Label after) h = inr (after, h)
-given text (Rack kind q m s n) h = (kind, h.0, (q ∷ m ∷ s ∷ n ∷ [], refl, h.1))
+given text (Rack kind size) h = (kind, h.0, (size.order ∷ size.modules ∷ size.slots ∷ size.length ∷ [], refl, h.1))
 given text (OnRack (Get m s o)) h = (m ∷ s ∷ o ∷ [], refl, h)
 given text (OnRack (Put m s o v)) h = (m ∷ s ∷ o ∷ v ∷ [], refl, h)
 given text (OnRack (Pull m)) h = (m ∷ [], refl, h)

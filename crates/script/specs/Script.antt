@@ -50,7 +50,7 @@ abbrev pub name_of : Command → Name
 name_of (Plan q d r d' r' L) = Name.Plan
 name_of Map = Name.Map
 name_of (Label after) = Name.Label
-name_of (Rack kind q m s n) = Name.Rack
+name_of (Rack kind size) = Name.Rack
 name_of (OnRack (Get m s o)) = Name.Get
 name_of (OnRack (Put m s o v)) = Name.Put
 name_of (OnRack (Pull m)) = Name.PullModule
@@ -76,7 +76,7 @@ abbrev pub Arguments : List ℕ → Command → Type 0
 Arguments text (Plan q d r d' r' L) = Numbers text (q ∷ d ∷ r ∷ d' ∷ r' ∷ L ∷ [])
 Arguments text Map = Numbers text []
 Arguments text (Label after) = Numbers text (flag after ∷ [])
-Arguments text (Rack kind q m s n) = (word text ≡ kind_name kind) × Numbers (rest text) (q ∷ m ∷ s ∷ n ∷ [])
+Arguments text (Rack kind size) = (word text ≡ kind_name kind) × Numbers (rest text) (size.order ∷ size.modules ∷ size.slots ∷ size.length ∷ [])
 Arguments text (OnRack (Get m s o)) = Numbers text (m ∷ s ∷ o ∷ [])
 Arguments text (OnRack (Put m s o v)) = Numbers text (m ∷ s ∷ o ∷ v ∷ [])
 Arguments text (OnRack (Pull m)) = Numbers text (m ∷ [])
@@ -105,7 +105,7 @@ abbrev pub of_pools : Command → Bool
 of_pools (Plan q d r d' r' L) = false
 of_pools Map = false
 of_pools (Label after) = false
-of_pools (Rack kind q m s n) = false
+of_pools (Rack kind size) = false
 of_pools (OnRack c) = false
 of_pools (Lay f) = true
 of_pools (Open f bytes) = true

@@ -2,6 +2,7 @@
 ghost use Rattle.std.specs.Prelude.{◌≡◌};
 
 use pool::kinds::Call;
+use rack::Size;
 
 /// A command of a script.
 #[derive(Clone, Copy)]
@@ -12,8 +13,8 @@ pub enum Command {
     Map,
     /// shows the label of the plan, before its changeover or after it
     Label(bool),
-    /// makes a rack that later lines use: order, modules, slots, length
-    Rack(RackKind, u16, u16, u16, u16),
+    /// makes a rack that later lines use
+    Rack(RackKind, Size),
     /// a call on the rack
     OnRack(RackCall),
     /// lays a pool over the rack

@@ -5,6 +5,7 @@ ghost use Rattle.script.specs.Script.{Writes, Takes, Understood};
 use crate::command::{Command, FieldKind, Name, RackCall, RackKind};
 use crate::words::{hex_word, is_blank, numbers, split_word};
 use pool::kinds::Call;
+use rack::Size;
 
 // A value that one word spells.
 trait Spelled: Copy + 'static {
@@ -147,7 +148,13 @@ fn rack_command(text: &[u8]) -> Option<Command>
     let (word, rest) = split_word(text);
     let kind = spelled_by(word)?;
     let [order, modules, slots, length] = numbers::<4>(rest)?;
-    Some(Command::Rack(kind, order, modules, slots, length))
+    let size = Size {
+        order,
+        modules,
+        slots,
+        length,
+    };
+    Some(Command::Rack(kind, size))
 }
 
 fn lay_command(text: &[u8]) -> Option<Command>
