@@ -1,7 +1,5 @@
-pub mod Joins
 pub mod Labels
 pub mod Printing
-pub mod Plays
 pub mod Plans
 pub mod Calling
 pub mod Parts

@@ -1,24 +1,26 @@
 -- What lines answer that set a plan, or ask for a rack or a pool. Assumes nothing.
-use Rattle.std.proofs.Common.{◌≡◌, ℕ, Bool, true, false, List, Some, None, Ok, Err, codes, Option, Result, sym, refl, ap, ◌∙◌, subst, MatchOption}
+use Rattle.std.proofs.Common.{◌≡◌, ℕ, List, Some, None, Ok, Err, codes, Option, Result, sym, refl, ap, ◌∙◌, subst, MatchOption}
 use Rattle.layout.specs.declared.label.Label as layout-label
 use Rattle.layout.specs.declared.plan.Plan as layout-plan
 use Rattle.layout.specs.declared.refusal.Refusal.{Refusal}
 use Rattle.layout.specs.Labels.{label_of}
 use Rattle.layout.specs.Refusals.{plan_refusal, Has, Judged}
-use Rattle.pool.specs.Openings.{lay_refusal, open_refusal, fit_refusal, laid_over}
-use Rattle.rack.specs.Laid.{fair, unless}
+use Rattle.pool.specs.Openings.{lay_refusal, open_refusal, laid_over}
 use Rattle.rack.specs.Meaning.{Meaning}
-use Rattle.player.specs.declared.request.RackRequest.{RackRequest}
 use Rattle.player.specs.declared.request.Request.{Request}
 use Rattle.player.specs.declared.request.Request.TheVariants as request
-use Rattle.player.specs.declared.request.Start.TheVariants as start
+use Rattle.player.specs.declared.request.By.{By}
+use Rattle.player.specs.declared.request.By.TheVariants as by
+use Rattle.player.specs.declared.request.Wanted.{Wanted}
 use Rattle.script.specs.declared.command.Command.{Command}
-use Rattle.script.specs.declared.command.Command.TheVariants.{Plan, Rack, Lay, Open}
+use Rattle.script.specs.declared.command.Command.TheVariants.{Plan, Map, Label, Rack, OnRack, Lay, Open, OnPool, Show, PoolLabel}
+use Rattle.script.specs.declared.command.RackCall.{RackCall}
+use Rattle.pool.specs.declared.kinds.Call.{Call}
+use Rattle.field.specs.Arithmetic.{Arithmetic}
 use Rattle.script.specs.declared.command.FieldKind.{FieldKind}
-use Rattle.script.specs.declared.command.RackKind.{RackKind}
 use Rattle.player.specs.Texts.{refused_text}
-use Rattle.player.specs.Answers.{Memory, bare, pooled, rack_in, State, state, arithmetic_of, blank_rack, Says, Lays, Opens, label_bytes, opened_over, Responds}
-use Rattle.player.specs.Holding.{alone, started_on, memory_by, Possible, PlanSet, RackAsked, LayAnswered, OpenAnswered}
+use Rattle.player.specs.Answers.{Memory, pooled, rack_in, State, state, arithmetic_of, Says, Lays, Opens, label_bytes, opened_over, Responds}
+use Rattle.player.specs.Holding.{started_over, started_on, memory_by, Fits, Possible, PlanSet, wanted_refusal, Starts, PoolAsked, LayAsked, IsAlike}
 
 at_none : (o : Option Refusal) (P : Type 0) (Q : Refusal → Type 0) → o ≡ None → P → MatchOption o P Q
 at_none o P Q e h = subst (λ x. MatchOption x P Q) (sym e) h
@@ -53,93 +55,86 @@ sets_plan c plan m q d r d' r' L new out made text is judged none set =
     subst (λ x. Responds (state plan m) x (state out (memory_by made m)) text) (sym is)
     (subst (λ y. Responds (state plan m) (Plan q d r d' r' L) (state out (memory_by y m)) text) (sym none) (plan_set plan m q d r d' r' L new out text judged set))
 
--- a line that asks for a rack, by whether its numbers are in their bounds
-rack_asked_lem : (f : Bool) (plan : Option layout-plan.Plan) (m : Memory) (q : RackRequest) (made : Option Request) (text : List ℕ) →
-    MatchOption (unless f) ((made ≡ Some (request.Rack q)) × (text ≡ codes "ok")) (λ e. (made ≡ None) × (text ≡ refused_text e)) →
-    MatchOption (unless f) ((state plan (memory_by made m) ≡ state plan (bare (blank_rack q.order q.modules q.slots q.length))) × (text ≡ codes "ok"))
-    (λ x. Says (state plan m) (refused_text x) (state plan (memory_by made m)) text)
-rack_asked_lem true plan m q made text h = (ap (λ y. state plan (memory_by y m)) h.0, h.1)
-rack_asked_lem false plan m q made text h = (ap (λ y. state plan (memory_by y m)) h.0, h.1)
+-- a pool that a plan or a label starts
+started_plan : (A : Arithmetic) (p : layout-plan.Plan) (w : Meaning) (y : By) → Starts (Wanted.Lay p) y → started_over A y w ≡ pooled A p (laid_over p w)
+started_plan A p w (by.Plan x) e = ap (λ z. pooled A z (laid_over z w)) e
+started_plan A p w (by.Label l) e = absurd e
 
-pub asks_rack : (c : Command) (plan : Option layout-plan.Plan) (m : Memory) (kind : RackKind) (q : RackRequest) (out : Option layout-plan.Plan) (made : Option Request) (text : List ℕ) →
-    c ≡ Rack kind q.order q.modules q.slots q.length → out ≡ plan → RackAsked q made text → Responds (state plan m) c (state out (memory_by made m)) text
-asks_rack c plan m kind q out made text is same h =
-    subst (λ x. Responds (state plan m) x (state out (memory_by made m)) text) (sym is)
-    (subst (λ o. Responds (state plan m) (Rack kind q.order q.modules q.slots q.length) (state o (memory_by made m)) text) (sym same)
-    (rack_asked_lem (fair q.order q.modules q.slots q.length) plan m q made text h))
+label_in : (bytes : Option (List ℕ)) (y : By) → Starts (Wanted.Open bytes) y → (l : layout-label.Label) × (y ≡ by.Label l) × (label_bytes bytes ≡ label_of l)
+label_in bytes (by.Plan x) e = absurd e
+label_in bytes (by.Label l) e = (l, refl, e)
 
--- only a rack with its numbers in their bounds is asked for
-rack_possible_by : (f : Bool) (q : RackRequest) (made : Option Request) (o : Option Meaning) (text : List ℕ) → f ≡ fair q.order q.modules q.slots q.length →
-    MatchOption (unless f) ((made ≡ Some (request.Rack q)) × (text ≡ codes "ok")) (λ e. (made ≡ None) × (text ≡ refused_text e)) → Possible made o
-rack_possible_by true q made o text e h = subst (λ x. Possible x o) (sym h.0) (sym e)
-rack_possible_by false q made o text e h = none_possible made o h.0
+module _ (plan : Option layout-plan.Plan) (m : Memory) (w : Meaning) (f : FieldKind) (r : Option Request) (text : List ℕ) (is : rack_in m ≡ Some w) where
+  -- the memory after a line that starts a pool
+  pool_memory : (y : By) → r ≡ Some (request.Pool (record { field = f; by = y })) → state plan (memory_by r m) ≡ state plan (started_over (arithmetic_of f) y w)
+  pool_memory y e = ap (λ x. state plan (memory_by x m)) e ∙ ap (λ o. state plan (started_on (record { field = f; by = y }) o)) is
 
-pub rack_possible : (q : RackRequest) (made : Option Request) (o : Option Meaning) (text : List ℕ) → RackAsked q made text → Possible made o
-rack_possible q made o text h = rack_possible_by (fair q.order q.modules q.slots q.length) q made o text refl h
+  -- a line that lays a pool, by its refusal
+  laid_by : (p : layout-plan.Plan) (x : Option Refusal) →
+      MatchOption x ((y : By) × Starts (Wanted.Lay p) y × Fits y (arithmetic_of f).order w × (r ≡ Some (request.Pool (record { field = f; by = y }))) × (text ≡ codes "ok")) (λ e. (r ≡ None) × (text ≡ refused_text e)) →
+      MatchOption x ((state plan (memory_by r m) ≡ state plan (pooled (arithmetic_of f) p (laid_over p w))) × (text ≡ codes "ok")) (λ e. Says (state plan m) (refused_text e) (state plan (memory_by r m)) text)
+  laid_by p (Some e) h = (ap (λ y. state plan (memory_by y m)) h.0, h.1)
+  laid_by p None h = (pool_memory h.0 h.3 ∙ ap (state plan) (started_plan (arithmetic_of f) p w h.0 h.1), h.4)
 
--- the rack of a memory that no pool has
-pub rack_alone : (o : Option Meaning) → rack_in (alone o) ≡ o
-rack_alone (Some w) = refl
-rack_alone None = refl
+  -- a line that opens a pool, by its refusal
+  opened_by : (bytes : Option (List ℕ)) (x : Option Refusal) →
+      MatchOption x ((y : By) × Starts (Wanted.Open bytes) y × Fits y (arithmetic_of f).order w × (r ≡ Some (request.Pool (record { field = f; by = y }))) × (text ≡ codes "ok")) (λ e. (r ≡ None) × (text ≡ refused_text e)) →
+      MatchOption x ((l : layout-label.Label) × (label_bytes bytes ≡ label_of l) × (state plan (memory_by r m) ≡ state plan (pooled (arithmetic_of f) l.plan (opened_over l w))) × (text ≡ codes "ok")) (λ e. Says (state plan m) (refused_text e) (state plan (memory_by r m)) text)
+  opened_by bytes (Some e) h = (ap (λ y. state plan (memory_by y m)) h.0, h.1)
+  opened_by bytes None h = let l = label_in bytes h.0 h.1 in (l.0, l.2, pool_memory h.0 h.3 ∙ ap (λ y. state plan (started_over (arithmetic_of f) y w)) l.1, h.4)
 
--- a line that lays a pool, by its refusal
-module _ (p : layout-plan.Plan) (m : Memory) (w : Meaning) (f : FieldKind) (r : Option Request) (text : List ℕ) (is : rack_in m ≡ Some w) where
-  laid_by : (x : Option Refusal) → MatchOption x ((r ≡ Some (request.Pool (start.Lay f p))) × (text ≡ codes "ok")) (λ e. (r ≡ None) × (text ≡ refused_text e)) →
-      MatchOption x ((state (Some p) (memory_by r m) ≡ state (Some p) (pooled (arithmetic_of f) p (laid_over p w))) × (text ≡ codes "ok")) (λ e. Says (state (Some p) m) (refused_text e) (state (Some p) (memory_by r m)) text)
-  laid_by (Some e) h = (ap (λ y. state (Some p) (memory_by y m)) h.0, h.1)
-  laid_by None h = (ap (λ y. state (Some p) (memory_by y m)) h.0 ∙ ap (λ y. state (Some p) (started_on (start.Lay f p) y)) is, h.1)
-
-  startable_by : (x : Option Refusal) → x ≡ lay_refusal p (arithmetic_of f).order w → MatchOption x ((r ≡ Some (request.Pool (start.Lay f p))) × (text ≡ codes "ok")) (λ e. (r ≡ None) × (text ≡ refused_text e)) → Possible r (Some w)
-  startable_by (Some e) same h = none_possible r (Some w) h.0
-  startable_by None same h = subst (λ y. Possible y (Some w)) (sym h.0) (sym same)
-
-lays : (plan : Option layout-plan.Plan) (o : Option Meaning) (m : Memory) (f : FieldKind) (r : Option Request) (text : List ℕ) → rack_in m ≡ o → LayAnswered plan f o r text → Lays (state plan m) f plan o (state plan (memory_by r m)) text
+lays : (plan : Option layout-plan.Plan) (o : Option Meaning) (m : Memory) (f : FieldKind) (r : Option Request) (text : List ℕ) → rack_in m ≡ o → LayAsked plan f o r text → Lays (state plan m) f plan o (state plan (memory_by r m)) text
 lays None o m f r text is h = says None None m r text (codes "no plan") refl h.0 h.1
 lays (Some p) None m f r text is h = says (Some p) (Some p) m r text (codes "no rack") refl h.0 h.1
-lays (Some p) (Some w) m f r text is h = laid_by p m w f r text is (lay_refusal p (arithmetic_of f).order w) h
+lays (Some p) (Some w) m f r text is h = laid_by (Some p) m w f r text is p (lay_refusal p (arithmetic_of f).order w) h
 
-pub asks_lay : (c : Command) (plan : Option layout-plan.Plan) (o : Option Meaning) (m : Memory) (f : FieldKind) (out : Option layout-plan.Plan) (r : Option Request) (text : List ℕ) →
-    c ≡ Lay f → rack_in m ≡ o → out ≡ plan → LayAnswered plan f o r text → Responds (state plan m) c (state out (memory_by r m)) text
-asks_lay c plan o m f out r text is at same h =
-    subst (λ x. Responds (state plan m) x (state out (memory_by r m)) text) (sym is)
-    (subst (λ y. Responds (state plan m) (Lay f) (state y (memory_by r m)) text) (sym same)
-    (subst (λ y. Lays (state plan m) f plan y (state plan (memory_by r m)) text) (sym at) (lays plan o m f r text at h)))
-
-pub lay_possible : (plan : Option layout-plan.Plan) (o : Option Meaning) (f : FieldKind) (r : Option Request) (text : List ℕ) → LayAnswered plan f o r text → Possible r o
-lay_possible None o f r text h = none_possible r o h.0
-lay_possible (Some p) None f r text h = none_possible r None h.0
-lay_possible (Some p) (Some w) f r text h = startable_by p (bare w) w f r text refl (lay_refusal p (arithmetic_of f).order w) refl h
-
--- a line that opens a pool, by its refusal
-module _ (plan : Option layout-plan.Plan) (bytes : List ℕ) (m : Memory) (w : Meaning) (f : FieldKind) (r : Option Request) (text : List ℕ) (is : rack_in m ≡ Some w) where
-  opened_by : (x : Option Refusal) →
-      MatchOption x ((l : layout-label.Label) × (bytes ≡ label_of l) × (fit_refusal l.plan (arithmetic_of f).order w ≡ None) × (r ≡ Some (request.Pool (start.Open f l))) × (text ≡ codes "ok")) (λ e. (r ≡ None) × (text ≡ refused_text e)) →
-      MatchOption x ((l : layout-label.Label) × (bytes ≡ label_of l) × (state plan (memory_by r m) ≡ state plan (pooled (arithmetic_of f) l.plan (opened_over l w))) × (text ≡ codes "ok")) (λ e. Says (state plan m) (refused_text e) (state plan (memory_by r m)) text)
-  opened_by (Some e) h = (ap (λ y. state plan (memory_by y m)) h.0, h.1)
-  opened_by None h = (h.0, h.1, ap (λ y. state plan (memory_by y m)) h.3 ∙ ap (λ y. state plan (started_on (start.Open f h.0) y)) is, h.4)
-
-  openable_by : (x : Option Refusal) →
-      MatchOption x ((l : layout-label.Label) × (bytes ≡ label_of l) × (fit_refusal l.plan (arithmetic_of f).order w ≡ None) × (r ≡ Some (request.Pool (start.Open f l))) × (text ≡ codes "ok")) (λ e. (r ≡ None) × (text ≡ refused_text e)) → Possible r (Some w)
-  openable_by (Some e) h = none_possible r (Some w) h.0
-  openable_by None h = subst (λ y. Possible y (Some w)) (sym h.3) h.2
-
-opens : (plan : Option layout-plan.Plan) (bytes : List ℕ) (o : Option Meaning) (m : Memory) (f : FieldKind) (r : Option Request) (text : List ℕ) → rack_in m ≡ o → OpenAnswered f bytes o r text → Opens (state plan m) f bytes o (state plan (memory_by r m)) text
+opens : (plan : Option layout-plan.Plan) (bytes : Option (List ℕ)) (o : Option Meaning) (m : Memory) (f : FieldKind) (r : Option Request) (text : List ℕ) → rack_in m ≡ o → PoolAsked f (Wanted.Open bytes) o r text →
+    Opens (state plan m) f (label_bytes bytes) o (state plan (memory_by r m)) text
 opens plan bytes None m f r text is h = says plan plan m r text (codes "no rack") refl h.0 h.1
-opens plan bytes (Some w) m f r text is h = opened_by plan bytes m w f r text is (open_refusal bytes (arithmetic_of f).order w) h
+opens plan bytes (Some w) m f r text is h = opened_by plan m w f r text is bytes (open_refusal (label_bytes bytes) (arithmetic_of f).order w) h
 
-pub asks_open : (c : Command) (plan : Option layout-plan.Plan) (o : Option Meaning) (m : Memory) (f : FieldKind) (bytes : Option (List ℕ)) (out : Option layout-plan.Plan) (r : Option Request) (text : List ℕ) →
-    c ≡ Open f bytes → rack_in m ≡ o → out ≡ plan → OpenAnswered f (label_bytes bytes) o r text → Responds (state plan m) c (state out (memory_by r m)) text
-asks_open c plan o m f bytes out r text is at same h =
-    subst (λ x. Responds (state plan m) x (state out (memory_by r m)) text) (sym is)
-    (subst (λ y. Responds (state plan m) (Open f bytes) (state y (memory_by r m)) text) (sym same)
-    (subst (λ y. Opens (state plan m) f (label_bytes bytes) y (state plan (memory_by r m)) text) (sym at) (opens plan (label_bytes bytes) o m f r text at h)))
+pub asks_lay : (c : Command) (plan : Option layout-plan.Plan) (o : Option Meaning) (m : Memory) (f : FieldKind) (r : Option Request) (text : List ℕ) →
+    c ≡ Lay f → rack_in m ≡ o → LayAsked plan f o r text → Responds (state plan m) c (state plan (memory_by r m)) text
+asks_lay c plan o m f r text is at h =
+    subst (λ x. Responds (state plan m) x (state plan (memory_by r m)) text) (sym is)
+    (subst (λ y. Lays (state plan m) f plan y (state plan (memory_by r m)) text) (sym at) (lays plan o m f r text at h))
 
-pub open_possible : (bytes : List ℕ) (o : Option Meaning) (f : FieldKind) (r : Option Request) (text : List ℕ) → OpenAnswered f bytes o r text → Possible r o
-open_possible bytes None f r text h = none_possible r None h.0
-open_possible bytes (Some w) f r text h = openable_by None bytes (bare w) w f r text refl (open_refusal bytes (arithmetic_of f).order w) h
+pub asks_open : (c : Command) (plan : Option layout-plan.Plan) (o : Option Meaning) (m : Memory) (f : FieldKind) (bytes : Option (List ℕ)) (r : Option Request) (text : List ℕ) →
+    c ≡ Open f bytes → rack_in m ≡ o → PoolAsked f (Wanted.Open bytes) o r text → Responds (state plan m) c (state plan (memory_by r m)) text
+asks_open c plan o m f bytes r text is at h =
+    subst (λ x. Responds (state plan m) x (state plan (memory_by r m)) text) (sym is)
+    (subst (λ y. Opens (state plan m) f (label_bytes bytes) y (state plan (memory_by r m)) text) (sym at) (opens plan bytes o m f r text at h))
 
-pub open_started : (bytes : List ℕ) (w : Meaning) (f : FieldKind) (r : Option Request) (text : List ℕ) (l : layout-label.Label) → None ≡ open_refusal bytes (arithmetic_of f).order w → bytes ≡ label_of l →
-    fit_refusal l.plan (arithmetic_of f).order w ≡ None → r ≡ Some (request.Pool (start.Open f l)) → text ≡ codes "ok" → OpenAnswered f bytes (Some w) r text
-open_started bytes w f r text l why is fits asks e =
-    subst (λ x. MatchOption x ((m : layout-label.Label) × (bytes ≡ label_of m) × (fit_refusal m.plan (arithmetic_of f).order w ≡ None) × (r ≡ Some (request.Pool (start.Open f m))) × (text ≡ codes "ok")) (λ y. (r ≡ None) × (text ≡ refused_text y)))
-    why (l, is, fits, asks, e)
+-- a pool is asked for only where it can be had
+possible_by : (x : Wanted) (f : FieldKind) (w : Meaning) (r : Option Request) (text : List ℕ) (e : Option Refusal) →
+    MatchOption e ((y : By) × Starts x y × Fits y (arithmetic_of f).order w × (r ≡ Some (request.Pool (record { field = f; by = y }))) × (text ≡ codes "ok")) (λ e. (r ≡ None) × (text ≡ refused_text e)) → Possible r (Some w)
+possible_by x f w r text (Some e) h = none_possible r (Some w) h.0
+possible_by x f w r text None h = subst (λ y. Possible y (Some w)) (sym h.3) h.2
+
+pub pool_possible : (x : Wanted) (o : Option Meaning) (f : FieldKind) (r : Option Request) (text : List ℕ) → PoolAsked f x o r text → Possible r o
+pool_possible x None f r text h = none_possible r None h.0
+pool_possible x (Some w) f r text h = possible_by x f w r text (wanted_refusal x (arithmetic_of f).order w) h
+
+pub lay_possible : (plan : Option layout-plan.Plan) (o : Option Meaning) (f : FieldKind) (r : Option Request) (text : List ℕ) → LayAsked plan f o r text → Possible r o
+lay_possible None o f r text h = none_possible r o h.0
+lay_possible (Some p) o f r text h = pool_possible (Wanted.Lay p) o f r text h
+
+-- what starts a pool that the check grants
+pub asked_started : (x : Wanted) (f : FieldKind) (w : Meaning) (y : By) (r : Option Request) (text : List ℕ) → None ≡ wanted_refusal x (arithmetic_of f).order w → Starts x y → Fits y (arithmetic_of f).order w →
+    r ≡ Some (request.Pool (record { field = f; by = y })) → text ≡ codes "ok" → PoolAsked f x (Some w) r text
+asked_started x f w y r text why starts fits asks e =
+    subst (λ z. MatchOption z ((y : By) × Starts x y × Fits y (arithmetic_of f).order w × (r ≡ Some (request.Pool (record { field = f; by = y }))) × (text ≡ codes "ok")) (λ u. (r ≡ None) × (text ≡ refused_text u)))
+    why (y, starts, fits, asks, e)
+
+-- commands that are answered alike
+pub alike : (c : Command) → ((x : RackCall) → c ≡ OnRack x → ⊥) → ((x : Call) → c ≡ OnPool x → ⊥) → (c ≡ Show → ⊥) → (c ≡ PoolLabel → ⊥) → IsAlike c
+alike (Plan q d r d' r' L) a b x y = tt
+alike Map a b x y = tt
+alike (Label after) a b x y = tt
+alike (Rack kind size) a b x y = tt
+alike (OnRack c) a b x y = absurd (a c refl)
+alike (Lay f) a b x y = tt
+alike (Open f bytes) a b x y = tt
+alike (OnPool c) a b x y = absurd (b c refl)
+alike Show a b x y = absurd (x refl)
+alike PoolLabel a b x y = absurd (y refl)

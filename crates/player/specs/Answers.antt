@@ -1,9 +1,9 @@
 -- What the program answers to a command, and what it leaves for the lines after it. Assumes nothing.
-use Rattle.std.specs.Prelude.{◌≡◌, ℕ, Bool, true, cond, ◌⊎◌, List, [], ◌++◌, replicate, Some, None, codes, decimal, Option, MatchOption}
+use Rattle.std.specs.Prelude.{◌≡◌, ℕ, Bool, cond, ◌⊎◌, List, [], ◌++◌, Some, None, codes, decimal, Option, MatchOption}
 use Rattle.layout.specs.declared.plan.Plan as layout-plan
 use Rattle.layout.specs.Labels.{label_of}
 use Rattle.layout.specs.Refusals.{plan_refusal, Has}
-use Rattle.rack.specs.Laid.{laid, fair, unless}
+use Rattle.rack.specs.Laid.{blank, fair, unless}
 use Rattle.rack.specs.Meaning.{Meaning, symbol_at, takes, pulls, fits, after_put, after_pull, after_fit}
 use Rattle.script.specs.declared.command.Command.{Command}
 use Rattle.script.specs.declared.command.Command.TheVariants.{Plan, Map, Label, Rack, OnRack, Lay, Open, OnPool, Show, PoolLabel}
@@ -11,7 +11,6 @@ use Rattle.script.specs.declared.command.FieldKind.{FieldKind}
 use Rattle.script.specs.declared.command.FieldKind.TheVariants.{Byte, Nibble, Prime}
 use Rattle.script.specs.declared.command.RackCall.{RackCall}
 use Rattle.script.specs.declared.command.RackCall.TheVariants.{Get, Put, Pull, Fit, Ask}
-use Rattle.script.specs.Script.{Writes}
 use Rattle.field.specs.Arithmetic.{Arithmetic}
 use Rattle.field.specs.Binary.{byte, nibble}
 use Rattle.field.specs.Prime.{prime}
@@ -54,10 +53,6 @@ abbrev pub arithmetic_of : FieldKind → Arithmetic
 arithmetic_of Byte = byte
 arithmetic_of Nibble = nibble
 arithmetic_of Prime = prime
-
--- a rack over memory that is all zero
-abbrev pub blank_rack : ℕ → ℕ → ℕ → ℕ → Meaning
-blank_rack q modules slots span = laid q modules slots span (replicate 32 true) (λ m s o. 0)
 
 abbrev pub got_text : Option ℕ → List ℕ
 got_text None = codes "nothing"
@@ -149,8 +144,8 @@ Responds b (Plan q d r d' r' L) e text =
     (λ x. Says b (refused_text x) e text)
 Responds b Map e text = Says b (asked b.plan map_text) e text
 Responds b (Label flag) e text = Says b (asked b.plan (λ p. label_text p flag)) e text
-Responds b (Rack kind q m s n) e text =
-    MatchOption (unless (fair q m s n)) ((e ≡ state b.plan (bare (blank_rack q m s n))) × (text ≡ codes "ok")) (λ x. Says b (refused_text x) e text)
+Responds b (Rack kind size) e text =
+    MatchOption (unless (fair size)) ((e ≡ state b.plan (bare (blank size))) × (text ≡ codes "ok")) (λ x. Says b (refused_text x) e text)
 Responds b (OnRack c) e text = (e ≡ state b.plan (rack_after b.memory c)) × (text ≡ rack_text b.memory c)
 Responds b (Lay f) e text = Lays b f b.plan (rack_in b.memory) e text
 Responds b (Open f bytes) e text = Opens b f (label_bytes bytes) (rack_in b.memory) e text
@@ -158,8 +153,13 @@ Responds b (OnPool c) e text = CallsPool b c b.memory e text
 Responds b Show e text = Says b (pool_text b.memory standing_text) e text
 Responds b PoolLabel e text = Says b (pool_text b.memory pool_label_text) e text
 
--- a line answers as its command does; one that writes no command changes nothing
-abbrev pub Answers : State → List ℕ → State → List ℕ → Type 0
-Answers b line e text =
-    ((c : Command) × Writes line c × Responds b c e text)
-    ⊎ (((c : Command) → Writes line c → ⊥) × Says b (codes "not understood") e text)
+-- what is read of a line, a command or none, answers as the command does; where no command is written nothing changes
+abbrev pub Replies : State → Option Command → State → List ℕ → Type 0
+Replies b (Some c) e text = Responds b c e text
+Replies b None e text = Says b (codes "not understood") e text
+
+-- a line answers as its command does, by which lines write which commands; one that writes no command changes nothing
+abbrev pub Answers : (List ℕ → Command → Type 0) → State → List ℕ → State → List ℕ → Type 0
+Answers writes b line e text =
+    ((c : Command) × writes line c × Responds b c e text)
+    ⊎ (((c : Command) → writes line c → ⊥) × Says b (codes "not understood") e text)

@@ -1,6 +1,6 @@
 -- What the program prints for a whole script. Assumes nothing.
-use Rattle.std.specs.Prelude.{◌≡◌, ℕ, ◌<◌, ◌≤◌, Bool, true, cond, List, [], ◌∷◌, ◌++◌, length, drop, codes, MatchBool, Option, MatchOption, ◌==◌}
-use Rattle.player.specs.declared.request.Request.{Request}
+use Rattle.std.specs.Prelude.{◌≡◌, ℕ, Bool, true, cond, List, [], ◌∷◌, ◌++◌, codes, MatchBool, ◌==◌}
+use Rattle.script.specs.declared.command.Command.{Command}
 use Rattle.player.specs.Answers.{State, Answers}
 
 -- the lines of a script: each ends at a newline, but for the last where none follows it
@@ -17,33 +17,14 @@ abbrev pub passed_over : List ℕ → Bool
 passed_over [] = true
 passed_over (c ∷ cs) = c == 35
 
--- a line is printed with its answer, and then what the rest prints with what the line leaves
-abbrev pub LinePrinted : State → List ℕ → (State → List ℕ → Type 0) → List ℕ → Type 0
-LinePrinted b line Rest out =
-    (after : State) × (text : List ℕ) × (more : List ℕ) × (out ≡ line ++ (codes ": " ++ (text ++ 10 ∷ more))) × Answers b line after text × Rest after more
+-- by which lines write which commands
+module _ (writes : List ℕ → Command → Type 0) where
+  -- a line is printed with its answer, and then what the rest prints with what the line leaves
+  abbrev pub LinePrinted : State → List ℕ → (State → List ℕ → Type 0) → List ℕ → Type 0
+  LinePrinted b line Rest out =
+      (after : State) × (text : List ℕ) × (more : List ℕ) × (out ≡ line ++ (codes ": " ++ (text ++ 10 ∷ more))) × Answers writes b line after text × Rest after more
 
--- the lines that are not passed over are printed, each with its answer, in order; b is what they act on
-abbrev pub Printed : State → List (List ℕ) → List ℕ → Type 0
-Printed b [] out = out ≡ []
-Printed b (line ∷ rest) out = MatchBool (passed_over line) (Printed b rest out) (LinePrinted b line (λ after more. Printed after rest more) out)
-
--- out is printed so far for a script that began with b and the lines all, and with whatever the lines left print on from now
--- the whole is right
-abbrev pub Sofar : State → List (List ℕ) → State → List (List ℕ) → List ℕ → Type 0
-Sofar b all now left out = (more : List ℕ) → Printed now left more → Printed b all (out ++ more)
-
--- a part of a script is played, which takes what is printed so far from out to out'
-abbrev pub Goes : State → List (List ℕ) → List ℕ → State → List (List ℕ) → List ℕ → Type 0
-Goes now left out now' left' out' = (b : State) (all : List (List ℕ)) → Sofar b all now left out → Sofar b all now' left' out'
-
--- a script is played from one place to another: to its end, or up to a line that asks for something
-pub record Ends (r : Option Request) (from n : ℕ) (script : List ℕ) : Type 0 where
-  pub rises : from ≤ n
-  pub inside : n ≤ length script
-  pub how : MatchOption r (lines (drop n script) ≡ []) (λ q. from < n)
-
--- a part of a script is played, and where there was a line to play it moves on
-pub record Turned (from n : ℕ) (script : List ℕ) : Type 0 where
-  pub rises : from ≤ n
-  pub inside : n ≤ length script
-  pub moves : from < length script → from < n
+  -- the lines that are not passed over are printed, each with its answer, in order; b is what they act on
+  abbrev pub Printed : State → List (List ℕ) → List ℕ → Type 0
+  Printed b [] out = out ≡ []
+  Printed b (line ∷ rest) out = MatchBool (passed_over line) (Printed b rest out) (LinePrinted b line (λ after more. Printed after rest more) out)

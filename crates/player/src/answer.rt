@@ -1,203 +1,172 @@
-// The answer to a line.
-ghost use Rattle.std.specs.Prelude.{◌≡◌, ℕ, List, IfOk, Some, None, string_bytes};
-ghost use Rattle.player.specs.Answers.{state, asked, Answers, Responds};
-ghost use Rattle.player.specs.Holding.{Possible, Ready, alone, within, memory_by, call_in, PlanSet, RackAsked};
+// The answer to a command.
+ghost use Rattle.std.specs.Prelude.{◌≡◌, IfOk, Some, None, string_bytes};
+ghost use Rattle.player.specs.Answers.{Memory, rack_in, state, asked, Replies, Responds};
+ghost use Rattle.player.specs.Holding.{IsAlike, Possible, Ready, alone, within, memory_by, call_in, PlanSet, RackAsked};
 ghost use Rattle.player.specs.Texts.{map_text, label_text};
-ghost use Rattle.script.specs.Script.{Understood};
-ghost use Rattle.std.specs.Option.{option_map};
+ghost use Rattle.std.specs.Option.{option_copied, option_map};
 
-use crate::request::{RackRequest, Request, Response};
+use crate::request::{RackRequest, Request, Response, Wanted};
 use crate::{pools, racks, text};
 use field::Field;
 use layout::label::Label;
 use layout::plan::Plan;
-use layout::refusal::Refusal;
+use layout::refusal::{Layer, Refusal};
 use pool::pool::Pool;
 use rack::Rack;
 use script::command::Command;
-use script::parse::parse;
 use std::alloc::{AllocError, Global};
 
 // A line that sets the plan.
 fn set_plan(
     heap: Global,
-    plan: Option<Plan>,
+    plan: &mut Option<Plan>,
     new: Result<Plan, Refusal>,
-) -> Result<Response, AllocError>
-    ensures { IfOk result (λ a. (a.request ≡ None) × PlanSet plan new a.plan (string_bytes a.text)) }
+) -> Result<String, AllocError>
+    ensures { IfOk result (λ text. PlanSet plan.old new plan.new (string_bytes text)) }
 {
     match new {
-        Ok(new) => Ok(Response {
-            text: String::from_str(heap, "ok")?,
-            plan: Some(new),
-            request: None,
-        }),
-        Err(refusal) => Ok(Response {
-            text: text::refused(heap, refusal)?,
-            plan,
-            request: None,
-        }),
+        Ok(new) => {
+            *plan = Some(new);
+            String::from_str(heap, "ok")
+        }
+        Err(refusal) => text::refused(heap, refusal),
     }
 }
 
 // A line that shows the plan.
-fn show_plan(heap: Global, plan: Option<Plan>) -> Result<Response, AllocError>
-    ensures { IfOk result (λ a. (a.request ≡ None) × (a.plan ≡ plan) × (string_bytes a.text ≡ asked plan map_text)) }
+fn show_plan(heap: Global, plan: &Option<Plan>) -> Result<String, AllocError>
+    ensures { IfOk result (λ text. string_bytes text ≡ asked plan.now map_text) }
 {
-    let text = match &plan {
-        Some(plan) => text::map(heap, plan)?,
-        None => String::from_str(heap, "no plan")?,
-    };
-    Ok(Response {
-        text,
-        plan,
-        request: None,
-    })
+    match plan {
+        Some(plan) => {
+            let map = text::Map(plan);
+            format!(in heap; "{map}")
+        }
+        None => String::from_str(heap, "no plan"),
+    }
 }
 
 // A line that shows the plan's label.
-fn show_label(heap: Global, plan: Option<Plan>, after: bool) -> Result<Response, AllocError>
-    ensures { IfOk result (λ a. (a.request ≡ None) × (a.plan ≡ plan) × (string_bytes a.text ≡ asked plan (λ p. label_text p after))) }
+fn show_label(heap: Global, plan: Option<Plan>, after: bool) -> Result<String, AllocError>
+    ensures { IfOk result (λ text. string_bytes text ≡ asked plan (λ p. label_text p after)) }
 {
-    let text = match plan {
-        Some(plan) => text::label(heap, Label { plan, after })?,
-        None => String::from_str(heap, "no plan")?,
-    };
-    Ok(Response {
-        text,
-        plan,
-        request: None,
-    })
+    match plan {
+        Some(plan) => text::label(heap, Label { plan, after }),
+        None => String::from_str(heap, "no plan"),
+    }
 }
 
 // A line that asks for a rack.
-fn ask_rack(heap: Global, plan: Option<Plan>, request: RackRequest) -> Result<Response, AllocError>
-    ensures { IfOk result (λ a. (a.plan ≡ plan) × RackAsked request a.request (string_bytes a.text)) }
+fn ask_rack(heap: Global, request: RackRequest) -> Result<Response, AllocError>
+    ensures { IfOk result (λ a. RackAsked request a.request (string_bytes a.text)) }
 {
-    match racks::rack_refusal(
-        request.order,
-        request.modules,
-        request.slots,
-        request.length,
-    ) {
-        None => Ok(Response {
+    if request.size.is_fair() {
+        Ok(Response {
             text: String::from_str(heap, "ok")?,
-            plan,
             request: Some(Request::Rack(request)),
-        }),
-        Some(refusal) => Ok(Response {
-            text: text::refused(heap, refusal)?,
-            plan,
-            request: None,
-        }),
+        })
+    } else {
+        let refusal = Refusal {
+            number: 1,
+            layer: Layer::Rack,
+            place: 0,
+        };
+        Ok(Response::only(text::refused(heap, refusal)?))
+    }
+}
+
+// The answer to a command that is answered alike whether a pool has the rack or none has.
+fn respond_alike<R: Rack>(
+    heap: Global,
+    plan: &mut Option<Plan>,
+    rack: Option<&R>,
+    command: Command,
+) -> Result<Response, AllocError>
+    requires { IsAlike command }
+    ensures { Ready R.valid (option_copied rack.entry) → IfOk result (λ a. ((m : Memory) → rack_in m ≡ option_map R.meaning (option_copied rack.entry) → Responds (state plan.old m) command (state plan.new (memory_by a.request m)) (string_bytes a.text)) × Possible a.request (option_map R.meaning (option_copied rack.entry))) }
+{
+    match command {
+        Command::Plan(order, d, r, d2, r2, len) => {
+            let new = Plan::new(order, d, r, d2, r2, len);
+            Ok(Response::only(set_plan(heap, plan, new)?))
+        }
+        Command::Map => Ok(Response::only(show_plan(heap, plan)?)),
+        Command::Label(after) => Ok(Response::only(show_label(heap, *plan, after)?)),
+        Command::Rack(kind, size) => Ok(ask_rack(heap, RackRequest { kind, size })?),
+        Command::Lay(field) => Ok(pools::ask_lay(heap, *plan, rack, field)?),
+        Command::Open(field, bytes) => Ok(pools::ask_pool(heap, field, Wanted::Open(bytes), rack)?),
+        Command::OnRack(_) | Command::OnPool(_) | Command::Show | Command::PoolLabel =>
+            unreachable!(),
     }
 }
 
 // The answer to a command where no pool has the rack.
 fn respond<R: Rack>(
     heap: Global,
-    plan: Option<Plan>,
+    plan: &mut Option<Plan>,
     rack: &mut Option<R>,
     command: Command,
 ) -> Result<Response, AllocError>
-    ensures { Ready R.valid rack.old → IfOk result (λ a. Responds (state plan (alone (option_map R.meaning rack.old))) command (state a.plan (memory_by a.request (alone (option_map R.meaning rack.new)))) (string_bytes a.text) × Ready R.valid rack.new × Possible a.request (option_map R.meaning rack.new)) }
+    ensures { Ready R.valid rack.old → IfOk result (λ a. Responds (state plan.old (alone (option_map R.meaning rack.old))) command (state plan.new (memory_by a.request (alone (option_map R.meaning rack.new)))) (string_bytes a.text) × Ready R.valid rack.new × Possible a.request (option_map R.meaning rack.new)) }
 {
     match command {
-        Command::Plan(order, d, r, d2, r2, len) => {
-            let new = Plan::new(order, d, r, d2, r2, len);
-            Ok(set_plan(heap, plan, new)?)
-        }
-        Command::Map => Ok(show_plan(heap, plan)?),
-        Command::Label(after) => Ok(show_label(heap, plan, after)?),
-        Command::Rack(kind, order, modules, slots, length) => {
-            let request = RackRequest {
-                kind,
-                order,
-                modules,
-                slots,
-                length,
-            };
-            Ok(ask_rack(heap, plan, request)?)
-        }
         Command::OnRack(call) => {
             let outcome = racks::on_rack_in_use(rack, call);
-            Ok(Response {
-                text: racks::outcome_text(heap, outcome)?,
-                plan,
-                request: None,
-            })
+            Ok(Response::only(format!(in heap; "{outcome}")?))
         }
-        Command::Lay(field) => Ok(pools::lay_alone(heap, plan, rack, field)?),
-        Command::Open(field, bytes) => Ok(pools::open_alone(heap, plan, rack, field, bytes)?),
-        Command::OnPool(_) | Command::Show | Command::PoolLabel => Ok(pools::say(
-            heap, plan, "no pool",
-        )?),
+        Command::OnPool(_) | Command::Show | Command::PoolLabel => Ok(pools::say(heap, "no pool")?),
+        _ => Ok(respond_alike(heap, plan, rack.as_ref(), command)?),
     }
 }
 
-/// The answer to a line where no pool has the rack.
+/// The answer to what was read of a line where no pool has the rack.
 pub fn answer<R: Rack>(
     heap: Global,
-    plan: Option<Plan>,
+    plan: &mut Option<Plan>,
     rack: &mut Option<R>,
-    line: &[u8],
+    command: Option<Command>,
 ) -> Result<Response, AllocError>
-    ensures { Ready R.valid rack.old → IfOk result (λ a. Answers (state plan (alone (option_map R.meaning rack.old))) line.now (state a.plan (memory_by a.request (alone (option_map R.meaning rack.new)))) (string_bytes a.text) × Ready R.valid rack.new × Possible a.request (option_map R.meaning rack.new)) }
+    ensures { Ready R.valid rack.old → IfOk result (λ a. Replies (state plan.old (alone (option_map R.meaning rack.old))) command (state plan.new (memory_by a.request (alone (option_map R.meaning rack.new)))) (string_bytes a.text) × Ready R.valid rack.new × Possible a.request (option_map R.meaning rack.new)) }
 {
-    match parse(line) {
+    match command {
         Some(command) => Ok(respond(heap, plan, rack, command)?),
-        None => Ok(pools::say(heap, plan, "not understood")?),
+        None => Ok(pools::say(heap, "not understood")?),
     }
 }
 
 // The answer to a command that is no call on the pool, where a pool has the rack.
 fn respond_pooled<F: Field, R: Rack>(
     heap: Global,
-    plan: Option<Plan>,
+    plan: &mut Option<Plan>,
     pool: &Pool<F, R>,
     command: Command,
 ) -> Result<Response, AllocError>
-    requires { call_in (Some command) ≡ None }
-    ensures { R.valid pool.now.rack → IfOk result (λ a. Responds (state plan (within F.arithmetic R.valid R.meaning pool.now)) command (state a.plan (memory_by a.request (within F.arithmetic R.valid R.meaning pool.now))) (string_bytes a.text) × Possible a.request (Some (R.meaning pool.now.rack))) }
+    requires other { call_in (Some command) ≡ None }
+    requires valid { R.valid pool.now.rack }
+    ensures { IfOk result (λ a. Responds (state plan.old (within F.arithmetic R.valid R.meaning pool.now)) command (state plan.new (memory_by a.request (within F.arithmetic R.valid R.meaning pool.now))) (string_bytes a.text) × Possible a.request (Some (R.meaning pool.now.rack))) }
 {
     match command {
-        Command::Plan(order, d, r, d2, r2, len) => {
-            let new = Plan::new(order, d, r, d2, r2, len);
-            Ok(set_plan(heap, plan, new)?)
-        }
-        Command::Map => Ok(show_plan(heap, plan)?),
-        Command::Label(after) => Ok(show_label(heap, plan, after)?),
-        Command::Rack(kind, order, modules, slots, length) => {
-            let request = RackRequest {
-                kind,
-                order,
-                modules,
-                slots,
-                length,
-            };
-            Ok(ask_rack(heap, plan, request)?)
-        }
-        Command::OnRack(_) => Ok(pools::say(heap, plan, "no rack")?),
-        Command::Lay(field) => Ok(pools::ask_lay(heap, plan, pool.rack(), field)?),
-        Command::Open(field, bytes) => Ok(pools::ask_open(heap, plan, pool.rack(), field, bytes)?),
-        Command::OnPool(_) => unreachable(),
-        Command::Show => Ok(pools::show_pool(heap, plan, pool)?),
-        Command::PoolLabel => Ok(pools::show_pool_label(heap, plan, pool)?),
+        Command::OnRack(_) => Ok(pools::say(heap, "no rack")?),
+        Command::OnPool(_) => unreachable!(),
+        Command::Show => Ok(Response::only(pools::show_pool(heap, pool)?)),
+        Command::PoolLabel => Ok(Response::only(text::label(heap, pool.label())?)),
+        _ => Ok(respond_alike(heap, plan, Some(pool.rack()), command)?),
     }
 }
 
-/// The answer to a line that was read as a command, but for a call on the pool, where a pool has the rack.
+/// The answer to what was read of a line, but for a call on the pool, where a pool has the rack.
 pub fn answer_pooled<F: Field, R: Rack>(
     heap: Global,
-    plan: Option<Plan>,
+    plan: &mut Option<Plan>,
     pool: &Pool<F, R>,
     command: Option<Command>,
 ) -> Result<Response, AllocError>
-    requires { call_in command ≡ None }
-    ensures { R.valid pool.now.rack → IfOk result (λ a. ((line : List ℕ) → Understood line command → Answers (state plan (within F.arithmetic R.valid R.meaning pool.now)) line (state a.plan (memory_by a.request (within F.arithmetic R.valid R.meaning pool.now))) (string_bytes a.text)) × Possible a.request (Some (R.meaning pool.now.rack))) }
+    requires other { call_in command ≡ None }
+    requires valid { R.valid pool.now.rack }
+    ensures { IfOk result (λ a. Replies (state plan.old (within F.arithmetic R.valid R.meaning pool.now)) command (state plan.new (memory_by a.request (within F.arithmetic R.valid R.meaning pool.now))) (string_bytes a.text) × Possible a.request (Some (R.meaning pool.now.rack))) }
 {
     match command {
         Some(command) => Ok(respond_pooled(heap, plan, pool, command)?),
-        None => Ok(pools::say(heap, plan, "not understood")?),
+        None => Ok(pools::say(heap, "not understood")?),
     }
 }

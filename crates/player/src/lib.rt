@@ -1,4 +1,4 @@
-//! Plays a script of commands: what is printed for each line.
+//! Plays a script of commands, in any language of them: what is printed for each line.
 #![tactic(auto)]
 
 mod answer;
@@ -8,6 +8,7 @@ mod pools;
 mod racks;
 mod request;
 mod rows;
+mod session;
 mod show;
 mod text;
 pub mod transcript;

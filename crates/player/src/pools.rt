@@ -1,19 +1,15 @@
 // Lines that start a pool over the rack in use, or show the pool in use.
-ghost use Rattle.std.specs.Prelude.{◌≡◌, IfOk, Some, None, string_bytes, codes};
-ghost use Rattle.pool.specs.Openings.{why_not, lay_refusal, open_refusal, fit_refusal};
-ghost use Rattle.layout.specs.Labels.{label_of};
+ghost use Rattle.std.specs.Prelude.{◌≡◌, IfOk, None, string_bytes};
+ghost use Rattle.pool.specs.Openings.{why_not};
 ghost use Rattle.pool.specs.Pools.{standing};
-ghost use Rattle.player.specs.Answers.{arithmetic_of, label_bytes, standing_text, pool_label_text};
-ghost use Rattle.player.specs.Holding.{Ready, LayAnswered, OpenAnswered};
-ghost use Rattle.player.specs.Texts.{refused_text};
-ghost use Rattle.script.specs.declared.command.FieldKind.{FieldKind};
-ghost use Rattle.std.specs.Option.{option_map};
+ghost use Rattle.player.specs.Answers.{arithmetic_of, standing_text};
+ghost use Rattle.player.specs.Holding.{Ready, Starts, Fits, wanted_refusal, PoolAsked, LayAsked};
+ghost use Rattle.std.specs.Option.{option_copied, option_map};
 
-use crate::request::{Request, Response, Start};
-use crate::show::show;
+use crate::request::{By, Request, Response, Start, Wanted};
+use crate::show::Shown;
 use crate::text;
 use field::{ByteField, Field, NibbleField, PrimeField};
-use layout::label::Label;
 use layout::plan::Plan;
 use layout::refusal::Refusal;
 use pool::pool::Pool;
@@ -21,177 +17,93 @@ use rack::Rack;
 use script::command::FieldKind;
 use std::alloc::{AllocError, Global};
 
-// Whether a pool can be laid by a plan over a rack.
-fn check_lay<R: Rack>(field: FieldKind, plan: &Plan, rack: &R) -> Result<(), Refusal>
-    ensures { R.valid rack.now → why_not result ≡ lay_refusal plan.now (arithmetic_of field).order (R.meaning rack.now) }
+// What starts the pool that is wanted, if it can be had over a field and a rack.
+fn check<F: Field, R: Rack>(field: &F, wanted: Wanted, rack: &R) -> Result<By, Refusal>
+    ensures why { R.valid rack.now → why_not result ≡ wanted_refusal wanted (F.arithmetic field.now).order (R.meaning rack.now) }
+    ensures starts { IfOk result (λ by. Starts wanted by) }
+    ensures fits { R.valid rack.now → IfOk result (λ by. Fits by (F.arithmetic field.now).order (R.meaning rack.now)) }
+{
+    match wanted {
+        Wanted::Lay(plan) => {
+            Pool::check_lay(&plan, field, rack)?;
+            Ok(By::Plan(plan))
+        }
+        Wanted::Open(bytes) => {
+            let bytes: &[u8] = match &bytes {
+                Some(bytes) => bytes,
+                None => &[],
+            };
+            Ok(By::Label(Pool::check_open(bytes, field, rack)?))
+        }
+    }
+}
+
+// The same over a field that is named.
+fn check_over<R: Rack>(field: FieldKind, wanted: Wanted, rack: &R) -> Result<By, Refusal>
+    ensures why { R.valid rack.now → why_not result ≡ wanted_refusal wanted (arithmetic_of field).order (R.meaning rack.now) }
+    ensures starts { IfOk result (λ by. Starts wanted by) }
+    ensures fits { R.valid rack.now → IfOk result (λ by. Fits by (arithmetic_of field).order (R.meaning rack.now)) }
 {
     match field {
-        FieldKind::Byte => Pool::check_lay(plan, &ByteField, rack),
-        FieldKind::Nibble => Pool::check_lay(plan, &NibbleField, rack),
-        FieldKind::Prime => Pool::check_lay(plan, &PrimeField, rack),
+        FieldKind::Byte => check(&ByteField, wanted, rack),
+        FieldKind::Nibble => check(&NibbleField, wanted, rack),
+        FieldKind::Prime => check(&PrimeField, wanted, rack),
     }
-}
-
-// The label that bytes are, and whether the pool of that label can be opened over a rack.
-fn check_open<R: Rack>(field: FieldKind, bytes: &[u8], rack: &R) -> Result<Label, Refusal>
-    ensures why { why_not result ≡ open_refusal bytes.now (arithmetic_of field).order (R.meaning rack.now) }
-    ensures label { IfOk result (λ m. bytes.now ≡ label_of m) }
-    ensures fits { IfOk result (λ m. fit_refusal m.plan (arithmetic_of field).order (R.meaning rack.now) ≡ None) }
-{
-    match field {
-        FieldKind::Byte => Pool::check_open(bytes, &ByteField, rack),
-        FieldKind::Nibble => Pool::check_open(bytes, &NibbleField, rack),
-        FieldKind::Prime => Pool::check_open(bytes, &PrimeField, rack),
-    }
-}
-
-// The same, from the bytes that a line writes.
-fn label_of<R: Rack>(field: FieldKind, bytes: Option<[u8; 16]>, rack: &R) -> Result<Label, Refusal>
-    ensures why { why_not result ≡ open_refusal (label_bytes bytes) (arithmetic_of field).order (R.meaning rack.now) }
-    ensures label { IfOk result (λ m. label_bytes bytes ≡ label_of m) }
-    ensures fits { IfOk result (λ m. fit_refusal m.plan (arithmetic_of field).order (R.meaning rack.now) ≡ None) }
-{
-    match bytes {
-        Some(bytes) => check_open(field, &bytes, rack),
-        None => check_open(field, &[], rack),
-    }
-}
-
-// A line that starts a pool.
-fn started(heap: Global, plan: Option<Plan>, start: Start) -> Result<Response, AllocError>
-    ensures { IfOk result (λ a. (a.plan ≡ plan) × (a.request ≡ Some (Request.Pool start)) × (string_bytes a.text ≡ codes "ok")) }
-{
-    Ok(Response {
-        text: String::from_str(heap, "ok")?,
-        plan,
-        request: Some(Request::Pool(start)),
-    })
-}
-
-// A line that is refused.
-fn refused(heap: Global, plan: Option<Plan>, refusal: Refusal) -> Result<Response, AllocError>
-    ensures { IfOk result (λ a. (a.plan ≡ plan) × (a.request ≡ None) × (string_bytes a.text ≡ refused_text refusal)) }
-{
-    Ok(Response {
-        text: text::refused(heap, refusal)?,
-        plan,
-        request: None,
-    })
 }
 
 /// A line that only says something.
-pub fn say(heap: Global, plan: Option<Plan>, text: &str) -> Result<Response, AllocError>
-    ensures { IfOk result (λ a. (a.plan ≡ plan) × (a.request ≡ None) × (string_bytes a.text ≡ text.now)) }
+pub fn say(heap: Global, text: &str) -> Result<Response, AllocError>
+    ensures { IfOk result (λ a. (a.request ≡ None) × (string_bytes a.text ≡ text.now)) }
 {
-    Ok(Response {
-        text: String::from_str(heap, text)?,
-        plan,
-        request: None,
-    })
+    Ok(Response::only(String::from_str(heap, text)?))
 }
 
-/// A line that lays a pool over a rack.
+/// A line that wants a pool over the rack in use.
+pub fn ask_pool<R: Rack>(
+    heap: Global,
+    field: FieldKind,
+    wanted: Wanted,
+    rack: Option<&R>,
+) -> Result<Response, AllocError>
+    ensures { Ready R.valid (option_copied rack.entry) → IfOk result (λ a. PoolAsked field wanted (option_map R.meaning (option_copied rack.entry)) a.request (string_bytes a.text)) }
+{
+    let Some(rack) = rack else {
+        return say(heap, "no rack");
+    };
+    match check_over(field, wanted, rack) {
+        Ok(by) => Ok(Response {
+            text: String::from_str(heap, "ok")?,
+            request: Some(Request::Pool(Start { field, by })),
+        }),
+        Err(refusal) => Ok(Response::only(text::refused(heap, refusal)?)),
+    }
+}
+
+/// A line that lays a pool by the plan in use over the rack in use.
 pub fn ask_lay<R: Rack>(
     heap: Global,
     plan: Option<Plan>,
-    rack: &R,
+    rack: Option<&R>,
     field: FieldKind,
 ) -> Result<Response, AllocError>
-    ensures { R.valid rack.now → IfOk result (λ a. (a.plan ≡ plan) × LayAnswered plan field (Some (R.meaning rack.now)) a.request (string_bytes a.text)) }
-{
-    let Some(by) = plan else {
-        return Ok(say(heap, plan, "no plan")?);
-    };
-    match check_lay(field, &by, rack) {
-        Ok(()) => Ok(started(heap, plan, Start::Lay(field, by))?),
-        Err(refusal) => Ok(refused(heap, plan, refusal)?),
-    }
-}
-
-/// A line that opens a pool over a rack.
-pub fn ask_open<R: Rack>(
-    heap: Global,
-    plan: Option<Plan>,
-    rack: &R,
-    field: FieldKind,
-    bytes: Option<[u8; 16]>,
-) -> Result<Response, AllocError>
-    ensures { IfOk result (λ a. (a.plan ≡ plan) × OpenAnswered field (label_bytes bytes) (Some (R.meaning rack.now)) a.request (string_bytes a.text)) }
-{
-    match label_of(field, bytes, rack) {
-        Ok(label) => Ok(started(heap, plan, Start::Open(field, label))?),
-        Err(refusal) => Ok(refused(heap, plan, refusal)?),
-    }
-}
-
-// A line that lays a pool, over whichever field, where there is no rack.
-fn lay_nowhere(heap: Global, plan: Option<Plan>) -> Result<Response, AllocError>
-    ensures { IfOk result (λ a. (a.plan ≡ plan) × ((f : FieldKind) → LayAnswered plan f None a.request (string_bytes a.text))) }
+    ensures { Ready R.valid (option_copied rack.entry) → IfOk result (λ a. LayAsked plan field (option_map R.meaning (option_copied rack.entry)) a.request (string_bytes a.text)) }
 {
     match plan {
-        Some(_) => Ok(say(heap, plan, "no rack")?),
-        None => Ok(say(heap, plan, "no plan")?),
+        Some(plan) => ask_pool(heap, field, Wanted::Lay(plan), rack),
+        None => say(heap, "no plan"),
     }
 }
 
-/// A line that lays a pool where no pool has the rack.
-pub fn lay_alone<R: Rack>(
-    heap: Global,
-    plan: Option<Plan>,
-    rack: &Option<R>,
-    field: FieldKind,
-) -> Result<Response, AllocError>
-    ensures { Ready R.valid rack.now → IfOk result (λ a. (a.plan ≡ plan) × LayAnswered plan field (option_map R.meaning rack.now) a.request (string_bytes a.text)) }
+/// How the pool stands, and its memory.
+pub fn show_pool<F: Field, R: Rack>(heap: Global, pool: &Pool<F, R>) -> Result<String, AllocError>
+    requires { R.valid pool.now.rack }
+    ensures { IfOk result (λ text. string_bytes text ≡ standing_text pool.now.plan (standing F.arithmetic R.valid R.meaning pool.now)) }
 {
-    match rack {
-        Some(rack) => ask_lay(heap, plan, rack, field),
-        None => lay_nowhere(heap, plan),
-    }
-}
-
-/// A line that opens a pool where no pool has the rack.
-pub fn open_alone<R: Rack>(
-    heap: Global,
-    plan: Option<Plan>,
-    rack: &Option<R>,
-    field: FieldKind,
-    bytes: Option<[u8; 16]>,
-) -> Result<Response, AllocError>
-    ensures { IfOk result (λ a. (a.plan ≡ plan) × OpenAnswered field (label_bytes bytes) (option_map R.meaning rack.now) a.request (string_bytes a.text)) }
-{
-    match rack {
-        Some(rack) => ask_open(heap, plan, rack, field, bytes),
-        None => say(heap, plan, "no rack"),
-    }
-}
-
-/// A line that shows how the pool stands, and its memory.
-pub fn show_pool<F: Field, R: Rack>(
-    heap: Global,
-    plan: Option<Plan>,
-    pool: &Pool<F, R>,
-) -> Result<Response, AllocError>
-    ensures { R.valid pool.now.rack → IfOk result (λ a. (a.plan ≡ plan) × (a.request ≡ None) × (string_bytes a.text ≡ standing_text pool.now.plan (standing F.arithmetic R.valid R.meaning pool.now))) }
-{
-    let shown = pool.plan();
-    Ok(Response {
-        text: show(heap, &shown, pool.phase(), pool.carried(), pool.rack())?,
-        plan,
-        request: None,
-    })
-}
-
-/// A line that shows the label of the pool.
-pub fn show_pool_label<F: Field, R: Rack>(
-    heap: Global,
-    plan: Option<Plan>,
-    pool: &Pool<F, R>,
-) -> Result<Response, AllocError>
-    ensures { IfOk result (λ a. (a.plan ≡ plan) × (a.request ≡ None) × (string_bytes a.text ≡ pool_label_text pool.now.plan (standing F.arithmetic R.valid R.meaning pool.now))) }
-{
-    Ok(Response {
-        text: text::label(heap, pool.label())?,
-        plan,
-        request: None,
-    })
+    let shown = Shown {
+        plan: pool.plan(),
+        phase: pool.phase(),
+        carried: pool.carried(),
+        rack: pool.rack(),
+    };
+    format!(in heap; "{shown}")
 }

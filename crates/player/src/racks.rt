@@ -1,24 +1,22 @@
 // Calls on the rack in use.
-ghost use Rattle.std.specs.Prelude.{◌≡◌, IfOk, string_bytes};
-ghost use Rattle.rack.specs.Laid.{fair, unless};
+ghost use Rattle.std.specs.Prelude.{◌≡◌};
 ghost use Rattle.player.specs.Answers.{called_text, called, rack_text, rack_after};
 ghost use Rattle.player.specs.Holding.{alone, outcome_text, Ready};
 ghost use Rattle.std.specs.Option.{option_map};
 
-use layout::refusal::{Layer, Refusal};
 use rack::Rack;
 use script::command::RackCall;
-use std::alloc::{AllocError, Global};
+use std::fmt;
 
 /// What a call on the rack came to.
 #[derive(Clone, Copy, PartialEq, Eq, Debug)]
 pub enum Outcome {
-    Symbol(u16),
-    Nothing,
-    Done,
-    NothingDone,
-    Fitted,
-    Out,
+    /// the symbol, if there is one
+    Got(Option<u16>),
+    /// whether anything was done
+    Done(bool),
+    /// whether the module is fitted
+    Fitted(bool),
     NoRack,
 }
 
@@ -27,38 +25,13 @@ fn on_rack<R: Rack>(rack: &mut R, call: RackCall) -> Outcome
     ensures { R.valid rack.old → (outcome_text result ≡ called_text (R.meaning rack.old) call) × (R.meaning rack.new ≡ called (R.meaning rack.old) call) × R.valid rack.new }
 {
     match call {
-        RackCall::Get(module, slot, offset) => match rack.get(module, slot, offset) {
-            Some(symbol) => Outcome::Symbol(symbol),
-            None => Outcome::Nothing,
-        },
+        RackCall::Get(module, slot, offset) => Outcome::Got(rack.get(module, slot, offset)),
         RackCall::Put(module, slot, offset, symbol) => {
-            if rack.put(module, slot, offset, symbol) {
-                Outcome::Done
-            } else {
-                Outcome::NothingDone
-            }
+            Outcome::Done(rack.put(module, slot, offset, symbol))
         }
-        RackCall::Pull(module) => {
-            if rack.pull(module) {
-                Outcome::Done
-            } else {
-                Outcome::NothingDone
-            }
-        }
-        RackCall::Fit(module) => {
-            if rack.fit(module) {
-                Outcome::Done
-            } else {
-                Outcome::NothingDone
-            }
-        }
-        RackCall::Ask(module) => {
-            if rack.ask(module) {
-                Outcome::Fitted
-            } else {
-                Outcome::Out
-            }
-        }
+        RackCall::Pull(module) => Outcome::Done(rack.pull(module)),
+        RackCall::Fit(module) => Outcome::Done(rack.fit(module)),
+        RackCall::Ask(module) => Outcome::Fitted(rack.ask(module)),
     }
 }
 
@@ -72,39 +45,21 @@ pub fn on_rack_in_use<R: Rack>(rack: &mut Option<R>, call: RackCall) -> Outcome
     }
 }
 
-/// The text of an outcome.
-pub fn outcome_text(heap: Global, outcome: Outcome) -> Result<String, AllocError>
-    ensures { IfOk result (λ s. string_bytes s ≡ outcome_text outcome) }
-{
-    match outcome {
-        Outcome::Symbol(v) => format!(in heap; "ok {v}"),
-        Outcome::Nothing => String::from_str(heap, "nothing"),
-        Outcome::Done => String::from_str(heap, "done"),
-        Outcome::NothingDone => String::from_str(heap, "nothing done"),
-        Outcome::Fitted => String::from_str(heap, "fitted"),
-        Outcome::Out => String::from_str(heap, "out"),
-        Outcome::NoRack => String::from_str(heap, "no rack"),
-    }
-}
+impl fmt::Display for Outcome {
+    ghost use Rattle.std.specs.Prelude.{Some};
+    ghost use Rattle.player.specs.Holding.{outcome_text};
 
-/// Why a rack with these numbers is refused; memory for it is made to fit.
-pub fn rack_refusal(order: u16, modules: u16, slots: u16, length: u16) -> Option<Refusal>
-    ensures { result ≡ unless (fair order modules slots length) }
-{
-    let fair = order >= 2
-        && modules >= 1
-        && modules <= 32
-        && slots >= 1
-        && slots <= 64
-        && length >= 1
-        && length <= 4096;
-    if fair {
-        None
-    } else {
-        Some(Refusal {
-            number: 1,
-            layer: Layer::Rack,
-            place: 0,
-        })
+    ghost output = { λ o. Some (outcome_text o) };
+
+    fn fmt<W: fmt::Write>(&self, f: &mut fmt::Formatter<W>) -> fmt::Result {
+        match *self {
+            Outcome::Got(Some(symbol)) => write!(f, "ok {symbol}"),
+            Outcome::Got(None) => f.write_str("nothing"),
+            Outcome::Done(true) => f.write_str("done"),
+            Outcome::Done(false) => f.write_str("nothing done"),
+            Outcome::Fitted(true) => f.write_str("fitted"),
+            Outcome::Fitted(false) => f.write_str("out"),
+            Outcome::NoRack => f.write_str("no rack"),
+        }
     }
 }

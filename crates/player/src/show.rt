@@ -1,15 +1,16 @@
 // The texts that are printed for a pool.
-ghost use Rattle.std.specs.Prelude.{◌≡◌, ◌∷◌, ◌++◌, IfOk, string_bytes, decimal, OnOk};
-ghost use Rattle.layout.specs.Counts.{modules_of, slots_of};
+ghost use Rattle.std.specs.Prelude.{◌≡◌, IfOk, Some, string_bytes};
+ghost use Rattle.layout.specs.Counts.{slots_of};
 ghost use Rattle.pool.specs.Book.{phase_number};
 ghost use Rattle.player.specs.Shows.{answer_text, carried_now, phase_text, out_text, slot_text, module_text, show_text};
-ghost use Rattle.player.specs.Texts.{each};
+ghost use Rattle.std.specs.Fmt.{DisplaysOnOk};
 
-use crate::text::{push_number, push_text, refused};
+use crate::text::refused;
 use layout::plan::Plan;
 use pool::kinds::{Answer, Phase};
 use rack::Rack;
 use std::alloc::{AllocError, Global};
+use std::fmt;
 
 /// The text of an answer.
 pub fn answer_text(heap: Global, answer: Answer) -> Result<String, AllocError>
@@ -45,152 +46,92 @@ fn carried_now(phase: Phase, carried: u16) -> u16
     }
 }
 
-// The phase, and the stripes that are carried.
-fn head(heap: Global, phase: Phase, carried: u16) -> Result<String, AllocError>
-    ensures { IfOk result (λ s. string_bytes s ≡ phase_text phase carried) }
-{
-    let number = phase_number(phase);
-    let stripes = carried_now(phase, carried);
-    format!(in heap; "phase {number}, carried {stripes}, out")
+/// What is shown of a pool: its phase, the stripes that are carried, the modules that are out, and the symbols in the others.
+#[derive(Drop)]
+pub struct Shown<'a, R: Rack> {
+    pub plan: Plan,
+    pub phase: Phase,
+    pub carried: u16,
+    pub rack: &'a R,
+    ghost valid: { ∥ R.valid rack.now ∥₁ },
 }
 
-// Whether a module is fitted.
-fn is_fitted<R: Rack>(rack: &R, module: u16) -> bool
-    ensures { R.valid rack.now → result ≡ (R.meaning rack.now).fitted «module» }
-{
-    rack.ask(module)
-}
-
-// A module, after a space, if it is out.
-fn push_out<R: Rack>(
-    heap: Global,
-    out: &mut String,
-    rack: &R,
-    module: u16,
-) -> Result<(), AllocError>
-    ensures { R.valid rack.now → OnOk result (string_bytes out.new ≡ string_bytes out.old ++ out_text (R.meaning rack.now) «module») }
-{
-    if !is_fitted(rack, module) {
-        push_number(heap, out, module)?;
+impl<R: Rack> Shown<'_, R> {
+    // Whether a module is fitted.
+    fn is_fitted(&self, module: u16) -> bool
+        ensures { result ≡ (R.meaning self.now.rack.now).fitted «module» }
+    {
+        self.rack.ask(module)
     }
-    Ok(())
-}
 
-// The modules that are out, each after a space.
-fn push_outs<R: Rack>(
-    heap: Global,
-    out: &mut String,
-    plan: &Plan,
-    rack: &R,
-) -> Result<(), AllocError>
-    ensures { R.valid rack.now → OnOk result (string_bytes out.new ≡ string_bytes out.old ++ each (modules_of plan.now.r plan.now.d2 plan.now.r2) (out_text (R.meaning rack.now))) }
-{
-    for module in 0..plan.modules() {
-        push_out(heap, out, rack, module)?;
+    // The symbol at a place; 0 where there is none.
+    fn symbol_at(&self, module: u16, slot: u16, offset: u16) -> u16
+        ensures { result ≡ (R.meaning self.now.rack.now).symbol «module» slot offset }
+    {
+        self.rack.get(module, slot, offset).unwrap_or(0)
     }
-    Ok(())
-}
 
-// The symbol at a place; 0 where there is none.
-fn symbol_at<R: Rack>(rack: &R, module: u16, slot: u16, offset: u16) -> u16
-    ensures { R.valid rack.now → result ≡ (R.meaning rack.now).symbol «module» slot offset }
-{
-    rack.get(module, slot, offset).unwrap_or(0)
-}
-
-// The symbols of a slot, each after a space.
-fn push_symbols<R: Rack>(
-    heap: Global,
-    out: &mut String,
-    plan: &Plan,
-    rack: &R,
-    module: u16,
-    slot: u16,
-) -> Result<(), AllocError>
-    ensures { R.valid rack.now → OnOk result (string_bytes out.new ≡ string_bytes out.old ++ each plan.now.len (λ o. 32 ∷ decimal ((R.meaning rack.now).symbol «module» slot o))) }
-{
-    for offset in 0..plan.len {
-        push_number(heap, out, symbol_at(rack, module, slot, offset))?;
+    // The phase, and the stripes that are carried.
+    fn write_head<W: fmt::Write>(&self, f: &mut fmt::Formatter<W>) -> fmt::Result
+        ensures { DisplaysOnOk W.write_str_gives f.old result (Some (phase_text self.now.phase self.now.carried)) f.new }
+    {
+        let number = phase_number(self.phase);
+        let stripes = carried_now(self.phase, self.carried);
+        write!(f, "phase {number}, carried {stripes}, out")
     }
-    Ok(())
-}
 
-// A line with the symbols of a slot.
-fn push_slot<R: Rack>(
-    heap: Global,
-    out: &mut String,
-    plan: &Plan,
-    rack: &R,
-    module: u16,
-    slot: u16,
-) -> Result<(), AllocError>
-    ensures { R.valid rack.now → OnOk result (string_bytes out.new ≡ string_bytes out.old ++ slot_text (R.meaning rack.now) plan.now.len «module» slot) }
-{
-    let head = format!(in heap; "\nmodule {module} slot {slot}:")?;
-    push_text(out, head.as_str())?;
-    push_symbols(heap, out, plan, rack, module, slot)?;
-    Ok(())
-}
-
-// A line for each slot of a module.
-fn push_slots<R: Rack>(
-    heap: Global,
-    out: &mut String,
-    plan: &Plan,
-    rack: &R,
-    module: u16,
-) -> Result<(), AllocError>
-    ensures { R.valid rack.now → OnOk result (string_bytes out.new ≡ string_bytes out.old ++ each (slots_of plan.now.d plan.now.d2) (slot_text (R.meaning rack.now) plan.now.len «module»)) }
-{
-    for slot in 0..plan.slots() {
-        push_slot(heap, out, plan, rack, module, slot)?;
+    // A module, after a space, if it is out.
+    fn write_out<W: fmt::Write>(&self, module: u16, f: &mut fmt::Formatter<W>) -> fmt::Result
+        ensures { DisplaysOnOk W.write_str_gives f.old result (Some (out_text (R.meaning self.now.rack.now) «module»)) f.new }
+    {
+        if self.is_fitted(module) {
+            Ok(())
+        } else {
+            write!(f, " {module}")
+        }
     }
-    Ok(())
-}
 
-// The lines of a module, if it is fitted.
-fn push_module<R: Rack>(
-    heap: Global,
-    out: &mut String,
-    plan: &Plan,
-    rack: &R,
-    module: u16,
-) -> Result<(), AllocError>
-    ensures { R.valid rack.now → OnOk result (string_bytes out.new ≡ string_bytes out.old ++ module_text (R.meaning rack.now) plan.now.len (slots_of plan.now.d plan.now.d2) «module») }
-{
-    if is_fitted(rack, module) {
-        push_slots(heap, out, plan, rack, module)?;
+    // A line with the symbols of a slot.
+    fn write_slot<W: fmt::Write>(
+        &self,
+        module: u16,
+        slot: u16,
+        f: &mut fmt::Formatter<W>,
+    ) -> fmt::Result
+        ensures { DisplaysOnOk W.write_str_gives f.old result (Some (slot_text (R.meaning self.now.rack.now) self.now.plan.len «module» slot)) f.new }
+    {
+        write!(f, "\nmodule {module} slot {slot}:")?;
+        for offset in 0..self.plan.len {
+            let symbol = self.symbol_at(module, slot, offset);
+            write!(f, " {symbol}")?;
+        }
+        Ok(())
     }
-    Ok(())
-}
 
-// The lines of all modules.
-fn push_modules<R: Rack>(
-    heap: Global,
-    out: &mut String,
-    plan: &Plan,
-    rack: &R,
-) -> Result<(), AllocError>
-    ensures { R.valid rack.now → OnOk result (string_bytes out.new ≡ string_bytes out.old ++ each (modules_of plan.now.r plan.now.d2 plan.now.r2) (module_text (R.meaning rack.now) plan.now.len (slots_of plan.now.d plan.now.d2))) }
-{
-    for module in 0..plan.modules() {
-        push_module(heap, out, plan, rack, module)?;
+    // The lines of a module, if it is fitted.
+    fn write_module<W: fmt::Write>(&self, module: u16, f: &mut fmt::Formatter<W>) -> fmt::Result
+        ensures { DisplaysOnOk W.write_str_gives f.old result (Some (module_text (R.meaning self.now.rack.now) self.now.plan.len (slots_of self.now.plan.d self.now.plan.d2) «module»)) f.new }
+    {
+        if self.is_fitted(module) {
+            for slot in 0..self.plan.slots() {
+                self.write_slot(module, slot, f)?;
+            }
+        }
+        Ok(())
     }
-    Ok(())
 }
 
-/// The phase of a pool, the stripes that are carried, the modules that are out, and the symbols in the others.
-pub fn show<R: Rack>(
-    heap: Global,
-    plan: &Plan,
-    phase: Phase,
-    carried: u16,
-    rack: &R,
-) -> Result<String, AllocError>
-    ensures { R.valid rack.now → IfOk result (λ s. string_bytes s ≡ show_text plan.now phase carried (R.meaning rack.now)) }
-{
-    let mut out = head(heap, phase, carried)?;
-    push_outs(heap, &mut out, plan, rack)?;
-    push_modules(heap, &mut out, plan, rack)?;
-    Ok(out)
+impl<R: Rack> fmt::Display for Shown<'_, R> {
+    ghost output = { λ s. Some (show_text s.plan s.phase s.carried (R.meaning s.rack.now)) };
+
+    fn fmt<W: fmt::Write>(&self, f: &mut fmt::Formatter<W>) -> fmt::Result {
+        self.write_head(f)?;
+        for module in 0..self.plan.modules() {
+            self.write_out(module, f)?;
+        }
+        for module in 0..self.plan.modules() {
+            self.write_module(module, f)?;
+        }
+        Ok(())
+    }
 }

@@ -1,72 +1,15 @@
 // The texts of the answers.
-ghost use Rattle.std.specs.Prelude.{◌≡◌, ◌/◌, ◌%◌, ◌<◌, [], ◌∷◌, ◌++◌, IfOk, string_bytes, codes, decimal, OnOk};
+ghost use Rattle.std.specs.Prelude.{◌≡◌, ◌<◌, ◌++◌, IfOk, Some, string_bytes, codes};
 ghost use Rattle.layout.specs.Labels.{label_of};
 ghost use Rattle.layout.specs.Placing.{rows_of, stripes_of, chunk_at, home_of};
-ghost use Rattle.player.specs.Texts.{each, hex_text, refused_text, layer_name, sizes_text, row_text, homes_text, counts_text, map_text};
-ghost use Rattle.std.specs.Char.{digit_char};
+ghost use Rattle.player.specs.Texts.{hex_text, refused_text, layer_name, row_text, counts_text, map_text};
+ghost use Rattle.std.specs.Fmt.{DisplaysOnOk};
 
 use layout::label::{LABEL_BYTES, Label};
 use layout::plan::Plan;
 use layout::refusal::{Layer, Refusal};
 use std::alloc::{AllocError, Global};
-
-// A hexadecimal digit.
-fn hex_digit(d: u8) -> char
-    requires { d < 16 }
-    ensures value { result ≡ digit_char d }
-    ensures ascii { result < 128 }
-{
-    if d < 10 {
-        char::from(b'0' + d)
-    } else {
-        char::from(b'a' + (d - 10))
-    }
-}
-
-// One character more.
-fn push_ascii(out: &mut String, c: char) -> Result<(), AllocError>
-    requires { c < 128 }
-    ensures { OnOk result (string_bytes out.new ≡ string_bytes out.old ++ c ∷ []) }
-{
-    out.push(c)?;
-    Ok(())
-}
-
-// One byte more: a space and two hexadecimal digits.
-fn push_byte(out: &mut String, b: u8) -> Result<(), AllocError>
-    ensures { OnOk result (string_bytes out.new ≡ string_bytes out.old ++ (32 ∷ digit_char (b / 16) ∷ digit_char (b % 16) ∷ [])) }
-{
-    push_ascii(out, ' ')?;
-    push_ascii(out, hex_digit(b / 16))?;
-    push_ascii(out, hex_digit(b % 16))?;
-    Ok(())
-}
-
-// The bytes in hexadecimal.
-fn push_bytes(out: &mut String, bytes: &[u8]) -> Result<(), AllocError>
-    ensures { OnOk result (string_bytes out.new ≡ string_bytes out.old ++ hex_text bytes.now) }
-{
-    for b in bytes {
-        push_byte(out, *b)?;
-    }
-    Ok(())
-}
-
-// One text more.
-pub(crate) fn push_text(out: &mut String, text: &str) -> Result<(), AllocError>
-    ensures { OnOk result (string_bytes out.new ≡ string_bytes out.old ++ text.now) }
-{
-    out.push_str(text)?;
-    Ok(())
-}
-
-// A space and a number.
-pub(crate) fn push_number(heap: Global, out: &mut String, n: u16) -> Result<(), AllocError>
-    ensures { OnOk result (string_bytes out.new ≡ string_bytes out.old ++ 32 ∷ decimal n) }
-{
-    let text = format!(in heap; " {n}")?;
-    out.push_str(text.as_str())
-}
+use std::fmt;
 
 fn layer_name(layer: Layer) -> &'static str
     ensures { result.now ≡ layer_name layer }
@@ -89,18 +32,6 @@ pub fn refused(heap: Global, refusal: Refusal) -> Result<String, AllocError>
     format!(in heap; "refused {number} {layer} {place}")
 }
 
-// The sizes of a plan.
-fn sizes(heap: Global, plan: &Plan) -> Result<String, AllocError>
-    ensures { IfOk result (λ s. string_bytes s ≡ sizes_text plan.now) }
-{
-    let l = plan.chunks();
-    let stripes = plan.stripes();
-    let rows = plan.rows();
-    let modules = plan.modules();
-    let slots = plan.slots();
-    format!(in heap; "l {l}, stripes {stripes}, rows {rows}, modules {modules}, slots {slots}")
-}
-
 // The chunk in a cell.
 fn chunk_in(plan: &Plan, row: u16, column: u16) -> u16
     requires row { row < rows_of plan.now.d plan.now.d2 }
@@ -109,40 +40,8 @@ fn chunk_in(plan: &Plan, row: u16, column: u16) -> u16
 {
     match plan.chunk_at(row, column) {
         Some(chunk) => chunk,
-        None => unreachable(),
+        None => unreachable!(),
     }
-}
-
-// The chunks of a row, each after a space.
-fn push_chunks(heap: Global, out: &mut String, plan: &Plan, row: u16) -> Result<(), AllocError>
-    requires { row < rows_of plan.now.d plan.now.d2 }
-    ensures { OnOk result (string_bytes out.new ≡ string_bytes out.old ++ each plan.now.d2 (λ c. 32 ∷ decimal (chunk_at plan.now.d plan.now.d2 row c))) }
-{
-    for column in 0..plan.d2 {
-        push_number(heap, out, chunk_in(plan, row, column))?;
-    }
-    Ok(())
-}
-
-// A line with the chunks of a row.
-fn push_row(heap: Global, out: &mut String, plan: &Plan, row: u16) -> Result<(), AllocError>
-    requires { row < rows_of plan.now.d plan.now.d2 }
-    ensures { OnOk result (string_bytes out.new ≡ string_bytes out.old ++ row_text plan.now row) }
-{
-    let head = format!(in heap; "\nrow {row}:")?;
-    push_text(out, head.as_str())?;
-    push_chunks(heap, out, plan, row)?;
-    Ok(())
-}
-
-// A line for each row.
-fn push_rows(heap: Global, out: &mut String, plan: &Plan) -> Result<(), AllocError>
-    ensures { OnOk result (string_bytes out.new ≡ string_bytes out.old ++ each (rows_of plan.now.d plan.now.d2) (row_text plan.now)) }
-{
-    for row in 0..plan.rows() {
-        push_row(heap, out, plan, row)?;
-    }
-    Ok(())
 }
 
 // The home row of a stripe.
@@ -152,60 +51,93 @@ fn home_of(plan: &Plan, stripe: u16) -> u16
 {
     match plan.home(stripe) {
         Some(row) => row,
-        None => unreachable(),
+        None => unreachable!(),
     }
 }
 
-// The home rows, each after a space.
-fn push_home_rows(heap: Global, out: &mut String, plan: &Plan) -> Result<(), AllocError>
-    ensures { OnOk result (string_bytes out.new ≡ string_bytes out.old ++ each (stripes_of plan.now.d plan.now.d2) (λ s. 32 ∷ decimal (home_of plan.now.d plan.now.d2 s))) }
+// A line with the chunks of a row.
+fn write_row<W: fmt::Write>(plan: &Plan, row: u16, f: &mut fmt::Formatter<W>) -> fmt::Result
+    requires { row < rows_of plan.now.d plan.now.d2 }
+    ensures { DisplaysOnOk W.write_str_gives f.old result (Some (row_text plan.now row)) f.new }
 {
-    for stripe in 0..plan.stripes() {
-        push_number(heap, out, home_of(plan, stripe))?;
+    write!(f, "\nrow {row}:")?;
+    for column in 0..plan.d2 {
+        let chunk = chunk_in(plan, row, column);
+        write!(f, " {chunk}")?;
     }
-    Ok(())
-}
-
-// A line with the home rows.
-fn push_homes(heap: Global, out: &mut String, plan: &Plan) -> Result<(), AllocError>
-    ensures { OnOk result (string_bytes out.new ≡ string_bytes out.old ++ homes_text plan.now) }
-{
-    push_text(out, "\nhome:")?;
-    push_home_rows(heap, out, plan)?;
     Ok(())
 }
 
 // Two lines with what a changeover reads, and what encoding all anew would read.
-fn push_counts(heap: Global, out: &mut String, plan: &Plan) -> Result<(), AllocError>
-    ensures { OnOk result (string_bytes out.new ≡ string_bytes out.old ++ counts_text plan.now) }
+fn write_counts<W: fmt::Write>(plan: &Plan, f: &mut fmt::Formatter<W>) -> fmt::Result
+    ensures { DisplaysOnOk W.write_str_gives f.old result (Some (counts_text plan.now)) f.new }
 {
     let (data, parities) = plan.counts();
-    let l = plan.chunks();
-    let text = format!(in heap;
-        "\ncounts: {data} data, {parities} parities\nre-encoding: {l} data"
-    )?;
-    out.push_str(text.as_str())?;
-    Ok(())
+    let chunks = plan.chunks();
+    write!(
+        f,
+        "\ncounts: {data} data, {parities} parities\nre-encoding: {chunks} data"
+    )
 }
 
 /// Where the chunks of a plan lie, and what its changeover reads.
-pub fn map(heap: Global, plan: &Plan) -> Result<String, AllocError>
-    ensures { IfOk result (λ s. string_bytes s ≡ map_text plan.now) }
+#[derive(Clone, Copy)]
+pub struct Map<'a>(pub &'a Plan);
+
+impl fmt::Display for Map<'_> {
+    ghost output = { λ m. Some (map_text m.0.now) };
+
+    fn fmt<W: fmt::Write>(&self, f: &mut fmt::Formatter<W>) -> fmt::Result {
+        let plan = self.0;
+        let chunks = plan.chunks();
+        let stripes = plan.stripes();
+        let rows = plan.rows();
+        let modules = plan.modules();
+        let slots = plan.slots();
+        write!(
+            f,
+            "l {chunks}, stripes {stripes}, rows {rows}, modules {modules}, slots {slots}"
+        )?;
+        for row in 0..rows {
+            write_row(plan, row, f)?;
+        }
+        write!(f, "\nhome:")?;
+        for stripe in 0..stripes {
+            let row = home_of(plan, stripe);
+            write!(f, " {row}")?;
+        }
+        write_counts(plan, f)
+    }
+}
+
+// Bytes, each as two hexadecimal digits after a space.
+fn write_bytes<W: fmt::Write>(bytes: &[u8], f: &mut fmt::Formatter<W>) -> fmt::Result
+    ensures { DisplaysOnOk W.write_str_gives f.old result (Some (hex_text bytes.now)) f.new }
 {
-    let mut out = sizes(heap, plan)?;
-    push_rows(heap, &mut out, plan)?;
-    push_homes(heap, &mut out, plan)?;
-    push_counts(heap, &mut out, plan)?;
-    Ok(out)
+    for byte in bytes {
+        write!(f, " {byte:02x}")?;
+    }
+    Ok(())
 }
 
 /// The bytes of a label.
+#[derive(Clone, Copy)]
+pub struct LabelBytes(pub Label);
+
+impl fmt::Display for LabelBytes {
+    ghost output = { λ l. Some (hex_text (label_of l.0)) };
+
+    fn fmt<W: fmt::Write>(&self, f: &mut fmt::Formatter<W>) -> fmt::Result {
+        let mut bytes = [0u8; LABEL_BYTES];
+        let _ = self.0.write(&mut bytes);
+        write_bytes(&bytes, f)
+    }
+}
+
+/// The text of a label.
 pub fn label(heap: Global, label: Label) -> Result<String, AllocError>
     ensures { IfOk result (λ s. string_bytes s ≡ codes "ok" ++ hex_text (label_of label)) }
 {
-    let mut bytes = [0u8; LABEL_BYTES];
-    let _ = label.write(&mut bytes);
-    let mut out = String::from_str(heap, "ok")?;
-    push_bytes(&mut out, &bytes)?;
-    Ok(out)
+    let bytes = LabelBytes(label);
+    format!(in heap; "ok{bytes}")
 }

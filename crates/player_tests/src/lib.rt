@@ -4,14 +4,24 @@
 #[cfg(test)]
 mod tests {
     use player::transcript::transcript;
+    use script::language::{AllCommands, Language, WithoutPools};
     use std::process::Abort;
     use std::test::Fail;
 
-    // What is printed for a script is this text.
-    fn prints(rt: &(impl Abort + AllocGlobal), script: &[u8], text: &[u8]) -> Result<(), Fail> {
-        let out = transcript(rt.alloc(), script)?;
+    // What is printed for a script in a language is this text.
+    fn prints_in<L: Language>(
+        rt: &(impl Abort + AllocGlobal),
+        script: &[u8],
+        text: &[u8],
+    ) -> Result<(), Fail> {
+        let out = transcript::<L>(rt.alloc(), script)?;
         assert!(rt; out.as_slice() == text);
         Ok(())
+    }
+
+    // The same in the language of all commands.
+    fn prints(rt: &(impl Abort + AllocGlobal), script: &[u8], text: &[u8]) -> Result<(), Fail> {
+        prints_in::<AllCommands>(rt, script, text)
     }
 
     #[test]
@@ -75,11 +85,21 @@ mod tests {
         )
     }
 
+    // Without pools, the lines of pools are not understood, and all others answer as ever.
+    #[test]
+    fn pools_are_not_in_every_language(rt: HostRuntime) -> Result<(), Fail> {
+        prints_in::<WithoutPools>(
+            &rt,
+            b"plan 256 2 2 3 2 1\nrack flat 256 5 5 1\nlay byte\nlabel\nlabel 0\nread 0 0\nbegin\nshow\nopen byte 00\nput 0 0 0 7\nget 0 0 0",
+            b"plan 256 2 2 3 2 1: ok\nrack flat 256 5 5 1: ok\nlay byte: not understood\nlabel: not understood\nlabel 0: ok 01 00 00 01 02 00 02 00 03 00 02 00 01 00 00 00\nread 0 0: not understood\nbegin: not understood\nshow: not understood\nopen byte 00: not understood\nput 0 0 0 7: done\nget 0 0 0: ok 7\n",
+        )
+    }
+
     // A line of 100,000 bytes.
     #[test]
     fn lines_may_be_long(rt: HostRuntime) -> Result<(), Fail> {
         let mut script = vec![in rt.alloc(); b'7'; 100000]?;
-        let out = transcript(rt.alloc(), script.as_slice())?;
+        let out = transcript::<AllCommands>(rt.alloc(), script.as_slice())?;
         script.extend_from_slice(b": not understood\n")?;
         assert!(rt; out.as_slice() == script.as_slice());
         Ok(())

@@ -1,12 +1,8 @@
-//! Plays a script of commands and prints what each answers.
+//! Plays the script on standard input, of plans, labels and racks alone, and prints what each line answers.
 #![tactic(auto)]
 
-mod answer;
-mod bench;
-mod script;
-mod text;
-mod transcript;
-
+use player::transcript::transcript;
+use script::language::WithoutPools;
 use std::io;
 use std::io::{Read, Write};
 
@@ -14,6 +10,6 @@ fn main(rt: HostRuntime) -> io::Result<()> {
     let heap = rt.alloc();
     let mut input = Vec::new(heap);
     rt.stdin().read_to_end(&mut input)?;
-    let out = transcript::transcript(heap, input.as_slice())?;
+    let out = transcript::<WithoutPools>(heap, input.as_slice())?;
     rt.stdout().write_all(out.as_slice())
 }

@@ -3,6 +3,7 @@
 #![tactic(auto)]
 
 use player::transcript::transcript;
+use script::language::AllCommands;
 use std::io;
 use std::io::{Read, Write};
 
@@ -10,6 +11,6 @@ fn main(rt: HostRuntime) -> io::Result<()> {
     let heap = rt.alloc();
     let mut input = Vec::new(heap);
     rt.stdin().read_to_end(&mut input)?;
-    let out = transcript(heap, input.as_slice())?;
+    let out = transcript::<AllCommands>(heap, input.as_slice())?;
     rt.stdout().write_all(out.as_slice())
 }

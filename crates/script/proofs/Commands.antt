@@ -1,5 +1,5 @@
 -- What stands after the name of a command. Assumes nothing.
-use Rattle.std.proofs.Common.{◌≡◌, ℕ, Bool, ◌⊎◌, List, [], ◌∷◌, length, Option, refl, subst, inl, inr}
+use Rattle.std.proofs.Common.{◌≡◌, ℕ, zero, suc, ◌<◌, Bool, ◌⊎◌, List, [], ◌∷◌, length, get_or, Option, None, sym, refl, ◌∙◌, subst, inl, inr, not-suc-le-zero, le_of_suc-le-suc}
 use Rattle.script.specs.declared.command.Command.{Command}
 use Rattle.script.specs.declared.command.Command.TheVariants.{Plan, Map, Label, Rack, OnRack, Lay, Open, OnPool, Show, PoolLabel}
 use Rattle.script.specs.declared.command.FieldKind.{FieldKind}
@@ -7,9 +7,8 @@ use Rattle.script.specs.declared.command.RackCall.TheVariants.{Get, Put, Pull, F
 use Rattle.script.specs.declared.command.RackKind.{RackKind}
 use Rattle.script.specs.declared.command.Name.{Name}
 use Rattle.pool.specs.declared.kinds.Call.TheVariants as Call
-use Rattle.script.specs.Plain.{Plain, arity}
 use Rattle.layout.specs.Labels.{flag}
-use Rattle.script.specs.Script.{kind_name, field_name, name_of, Arguments}
+use Rattle.script.specs.Script.{kind_name, field_name, name_of, Arguments, Takes}
 use Rattle.script.specs.Words.{word, rest, Numbers, HexWord}
 
 -- a text has n numbers
@@ -44,7 +43,7 @@ given : (text : List ℕ) (c : Command) → Arguments text c → Given (name_of 
 given text (Plan q d r d' r' L) h = (q ∷ d ∷ r ∷ d' ∷ r' ∷ L ∷ [], refl, h)
 given text Map h = ([], refl, h)
 given text (Label after) h = inr (after, h)
-given text (Rack kind q m s n) h = (kind, h.0, (q ∷ m ∷ s ∷ n ∷ [], refl, h.1))
+given text (Rack kind size) h = (kind, h.0, (size.order ∷ size.modules ∷ size.slots ∷ size.length ∷ [], refl, h.1))
 given text (OnRack (Get m s o)) h = (m ∷ s ∷ o ∷ [], refl, h)
 given text (OnRack (Put m s o v)) h = (m ∷ s ∷ o ∷ v ∷ [], refl, h)
 given text (OnRack (Pull m)) h = (m ∷ [], refl, h)
@@ -68,28 +67,13 @@ given text PoolLabel h = inl h
 pub no_command : (name : Name) (text : List ℕ) → (Given name text → ⊥) → (c : Command) → name_of c ≡ name → Arguments text c → ⊥
 no_command name text none c e h = none (subst (λ n. Given n text) e (given text c h))
 
-pub plain_given : (name : Name) (text : List ℕ) → Plain name → Given name text → Counted (arity name) text
-plain_given Name.Plan text p h = h
-plain_given Name.Map text p h = h
-plain_given Name.Label text p h = absurd (p.0 refl)
-plain_given Name.Rack text p h = absurd (p.1 refl)
-plain_given Name.Get text p h = h
-plain_given Name.Put text p h = h
-plain_given Name.PullModule text p h = h
-plain_given Name.FitModule text p h = h
-plain_given Name.Ask text p h = h
-plain_given Name.Lay text p h = absurd (p.2 refl)
-plain_given Name.Open text p h = absurd (p.3 refl)
-plain_given Name.Read text p h = h
-plain_given Name.Write text p h = h
-plain_given Name.Pull text p h = h
-plain_given Name.Refit text p h = h
-plain_given Name.Begin text p h = h
-plain_given Name.Carry text p h = h
-plain_given Name.Ready text p h = h
-plain_given Name.Close text p h = h
-plain_given Name.Drop text p h = h
-plain_given Name.Show text p h = h
+-- where a text has no n numbers, there is no command of a name that n numbers stand after
+pub no_numbers : (name called : Name) (n : ℕ) (text : List ℕ) (r : Option Command) → (Given name text → Counted n text) → called ≡ name → ((ns : List ℕ) → length ns ≡ n → Numbers text ns → ⊥) → r ≡ None → Takes called text r
+no_numbers name called n text r is same none e =
+    subst (λ m. Takes m text r) (sym same) (subst (Takes name text) (sym e) (no_command name text (λ g. let k = is g in none k.0 k.1 k.2)))
 
-pub no_numbers : (name : Name) (text : List ℕ) → Plain name → ((ns : List ℕ) → length ns ≡ arity name → Numbers text ns → ⊥) → (c : Command) → name_of c ≡ name → Arguments text c → ⊥
-no_numbers name text p none = no_command name text (λ g. let k = plain_given name text p g in none k.0 k.1 k.2)
+-- an item of a list is the same whatever stands in for none
+pub same_item : {A : Type 0} (xs : List A) (k : ℕ) (y x : A) → k < length xs → y ≡ get_or xs k y → get_or xs k x ≡ x → y ≡ x
+same_item [] k y x h e f = absurd (not-suc-le-zero h)
+same_item (z ∷ xs) zero y x h e f = e ∙ f
+same_item (z ∷ xs) (suc k) y x h e f = same_item xs k y x (le_of_suc-le-suc h) e f

@@ -2,4 +2,3 @@ pub mod Splits
 pub mod Numerals
 pub mod Hex
 pub mod Commands
-pub mod Names

@@ -1,53 +1,23 @@
 -- A loop that reads a number digit by digit, and stops counting at 65,536. Assumes nothing.
-use Rattle.std.proofs.Common.{◌≡◌, ℕ, zero, suc, ◌+◌, ◌-◌, ◌*◌, ◌^◌, ◌<◌, ◌≤◌, min, Bool, true, false, eqb, ◌⊎◌, List, [], ◌∷◌, ◌++◌, length, get_or, take, drop, sym, refl, ap, ◌∙◌, subst, inl, inr, le_of_suc-le-suc, not-suc-le-zero, suc-ne-zero, arith, drop_of_length-le, drop-cons}
-use native.Mathlib.Nat.{min-eq_left, min-eq_right}
+use Rattle.std.specs.List.{range_with_len}
+use Rattle.std.proofs.Common.{map, slice_index, take_all, ◌≡◌, ℕ, ◌+◌, ◌*◌, ◌<◌, ◌≤◌, Bool, true, false, List, [], ◌∷◌, ◌++◌, length, get_or, take, drop, sym, refl, ap, ◌∙◌, subst, le_of_suc-le-suc, not-suc-le-zero, suc-ne-zero, arith, drop_of_length-le, drop-cons}
 use Rattle.std.specs.Str.Parse.{AllDigits, digits_value}
 use Rattle.std.specs.Char.{digit_value as digitValue}
 use Rattle.std.proofs.lemmas.List.FromFn.{fill_by_all, take-map-range_with_len}
-use Rattle.std.proofs.lemmas.Int.Digits.{digits_value_more, digits_more}
-use Rattle.std.proofs.lemmas.Str.Parse.{digit_at}
-use Rattle.std.proofs.lemmas.Bool.{cases_lt}
-use Rattle.std.proofs.lemmas.Bool.Decides.{nat_tests}
-use Rattle.script.specs.Plain.{firsts}
+use Rattle.std.proofs.lemmas.Int.Digits.{digits_value_more}
+use Rattle.std.proofs.lemmas.Str.Parse.{digits_value-take-le}
 use Rattle.layout.specs.Labels.{flag}
 use Rattle.script.specs.Words.{word, rest, Numbered, Numbers}
 
-pub digit_value : (c : ℕ) → 48 ≤ c → c ≤ 57 → digitValue c ≡ c - 48
-digit_value c l h = grind (arith, nat_tests)
+-- a word of digits is a number, where it is not empty and the number fits
+pub read_all : (w : List ℕ) (n : ℕ) → 0 < length w → AllDigits 10 w → n ≡ digits_value 10 w → n < 65536 → Numbered w n
+read_all w n some ds e h = ((some, ds), sym e, h)
 
-capped : (v n d : ℕ) → n ≡ min v 65536 → min (n * 10 + d) 65536 ≡ min (v * 10 + d) 65536
-capped v n d e = by (cases_lt v 65536)
-  where
-    by : (v < 65536) ⊎ (65536 ≤ v) → min (n * 10 + d) 65536 ≡ min (v * 10 + d) 65536
-    by (inl h) = let same : n ≡ v = e ∙ min-eq_left (omega arith) in rw same
-    by (inr h) =
-        let full : n ≡ 65536 = e ∙ min-eq_right h in
-        min-eq_right (omega arith) ∙ sym (min-eq_right (omega arith))
-
-module _ (w : List ℕ) (i : ℕ) (h : i < length w) (low : 48 ≤ get_or w i 0) (high : get_or w i 0 ≤ 57) where
-  pub more_digits : AllDigits 10 (take i w) → AllDigits 10 (take (i + 1) w)
-  more_digits ds = digits_more 10 w i h ds (omega (arith, digit_value (get_or w i 0) low high))
-
-  pub more_value : (n d m : ℕ) → n ≡ min (digits_value 10 (take i w)) 65536 → d ≡ get_or w i 0 - 48 → m ≡ min (n * 10 + d) 65536 → m ≡ min (digits_value 10 (take (i + 1) w)) 65536
-  more_value n d m e f g =
-      g ∙ capped (digits_value 10 (take i w)) n d e
-      ∙ ap (λ x. min x 65536) (let p : digits_value 10 (take i w) * 10 + d ≡ digits_value 10 (take (i + 1) w) = rw (digits_value_more 10 w i h) (ap (λ x. digits_value 10 (take i w) * 10 + x) (f ∙ sym (digit_value (get_or w i 0) low high))) in p)
-
-pub stuck : (w : List ℕ) (i : ℕ) → AllDigits 10 w → i < length w → (get_or w i 0 < 48) ⊎ (57 < get_or w i 0) → ⊥
-stuck w i ds h (inl l) = omega (arith, digit_at w i ds h)
-stuck w i ds h (inr l) = omega (arith, digit_at w i ds h)
-
-pub read_all : (w : List ℕ) (n : ℕ) → 0 < length w → AllDigits 10 w → n ≡ min (digits_value 10 w) 65536 → n < 65536 → Numbered w n
-read_all w n some ds e h = by (cases_lt (digits_value 10 w) 65536)
-  where
-    by : (digits_value 10 w < 65536) ⊎ (65536 ≤ digits_value 10 w) → Numbered w n
-    by (inl l) = ((some, ds), sym (e ∙ min-eq_left (omega arith)), h)
-    by (inr l) = absurd (omega (arith, e ∙ min-eq_right l))
-
-pub too_large : (w : List ℕ) (n m : ℕ) → n ≡ min (digits_value 10 w) 65536 → 65536 ≤ n → digits_value 10 w ≡ m → m < 2 ^ 16 → ⊥
-too_large w n m e h v l =
-    let same : n ≡ digits_value 10 w = e ∙ min-eq_left (omega arith) in
-    omega arith
+-- what some digits of a number write is no more than the number
+pub too_large : (w : List ℕ) (i n m : ℕ) → i < length w → n ≡ digits_value 10 (take i w) → Numbered w m → n * 10 + digitValue (get_or w i 0) < 65536
+too_large w i n m h e x =
+    let step = digits_value_more 10 w i h in
+    omega (arith, digits_value-take-le 10 w (i + 1) (omega arith), step, e, x.1, x.2)
 
 -- the words at the front of a text are numerals of these numbers, and left is what stands after them
 abbrev pub Front : List ℕ → List ℕ → List ℕ → Type 0
@@ -85,19 +55,18 @@ pub empty_list : (ns : List ℕ) → length ns ≡ 0 → ns ≡ []
 empty_list [] e = refl
 empty_list (n ∷ ns) e = absurd (suc-ne-zero _ e)
 
+-- the first n numbers of a list, one by one
+abbrev pub firsts : ℕ → List ℕ → List ℕ
+firsts n ns = map (λ i. slice_index ns i) (range_with_len 0 n)
+
 pub firsts_are : (n : ℕ) (ns : List ℕ) → n ≤ length ns → take n ns ≡ firsts n ns
 firsts_are n ns h =
     ap (take n) (fill_by_all (λ i. get_or ns i 0) ns (length ns) 0 refl (λ k l. refl)) ∙ take-map-range_with_len (λ i. get_or ns i 0) 0 (length ns) n h
 
--- the flag of a label
-pub flagged : (n : ℕ) → n ≤ 1 → n ≡ flag (eqb n 1)
-flagged n h = below_two (λ m. m ≡ flag (eqb m 1)) refl refl n (omega arith)
-  where
-    below_two : (P : ℕ → Type 0) → P 0 → P 1 → (m : ℕ) → m < 2 → P m
-    below_two P p q zero l = p
-    below_two P p q (suc zero) l = q
-    below_two P p q (suc (suc m)) l = absurd (omega arith)
+pub numbers_are : (n : ℕ) (text ns : List ℕ) → length ns ≡ n → Numbers text ns → Numbers text (firsts n ns)
+numbers_are n text ns e h = subst (Numbers text) (sym (take_all n ns (omega (arith, e))) ∙ firsts_are n ns (omega (arith, e))) h
 
+-- the flag of a label
 pub flag_small : (after : Bool) → flag after ≤ 1
 flag_small true = omega arith
 flag_small false = omega arith

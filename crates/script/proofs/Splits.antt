@@ -1,42 +1,31 @@
--- Where the words of a text begin and end. Assumes nothing.
-use Rattle.std.proofs.Common.{◌≡◌, ℕ, ◌+◌, ◌<◌, ◌≤◌, eqb, List, [], ◌∷◌, ◌++◌, length, get_or, take, drop, sym, ap, ◌∙◌, append_assoc, append-nil, add-one, drop_of_length-le, drop-cons, take-suc, eq-eqb, ne_eqb}
+-- Where the first word of a text ends. Assumes nothing.
+use Rattle.std.proofs.Common.{◌≡◌, ℕ, ◌+◌, eqb, cond, List, [], ◌∷◌, take, drop, refl, ap, eq-eqb, ne_eqb, add-one, Bool, true, false}
 use Rattle.std.proofs.lemmas.Bool.{cond-true, cond-false}
-use Rattle.script.specs.Words.{trimmed, front, behind}
+use Rattle.script.specs.Words.{front, behind}
 
-module _ (s : List ℕ) (i : ℕ) (h : i < length s) where
-  cons : drop i s ≡ get_or s i 0 ∷ drop (i + 1) s
-  cons = rw (add-one i) (drop-cons s i 0 h)
+-- how many bytes stand before the first space of a text
+abbrev pub solid : List ℕ → ℕ
+solid [] = 0
+solid (c ∷ cs) = cond (eqb c 32) 0 (solid cs + 1)
 
-  pub trim_step : get_or s i 0 ≡ 32 → trimmed (drop (i + 1) s) ≡ trimmed (drop i s)
-  trim_step e = sym (ap trimmed cons ∙ cond-true (eqb (get_or s i 0) 32) _ _ (eq-eqb _ _ e))
+pub solid_space : (c : ℕ) (cs : List ℕ) → c ≡ 32 → solid (c ∷ cs) ≡ 0
+solid_space c cs e = cond-true (eqb c 32) _ _ (eq-eqb c 32 e)
 
-  pub trim_stop : (get_or s i 0 ≡ 32 → ⊥) → drop i s ≡ trimmed (drop i s)
-  trim_stop n = sym (ap trimmed cons ∙ cond-false (eqb (get_or s i 0) 32) _ _ (ne_eqb _ _ n) ∙ sym cons)
+pub solid_other : (c : ℕ) (cs : List ℕ) → (c ≡ 32 → ⊥) → solid (c ∷ cs) ≡ solid cs + 1
+solid_other c cs n = cond-false (eqb c 32) _ _ (ne_eqb c 32 n)
 
-  pub front_step : (get_or s i 0 ≡ 32 → ⊥) → take (i + 1) s ++ front (drop (i + 1) s) ≡ take i s ++ front (drop i s)
-  front_step n =
-      ap (λ l. l ++ front (drop (i + 1) s)) (rw (add-one i) (take-suc s i 0 h))
-      ∙ append_assoc (take i s) (get_or s i 0 ∷ []) (front (drop (i + 1) s))
-      ∙ ap (λ l. take i s ++ l) (sym (ap front cons ∙ cond-false (eqb (get_or s i 0) 32) _ _ (ne_eqb _ _ n)))
+front_by : (b : Bool) (c : ℕ) (cs : List ℕ) → take (solid cs) cs ≡ front cs → take (cond b 0 (solid cs + 1)) (c ∷ cs) ≡ cond b [] (c ∷ front cs)
+front_by true c cs e = refl
+front_by false c cs e = rw (add-one (solid cs)) (ap (λ l. c ∷ l) e)
 
-  pub behind_step : (get_or s i 0 ≡ 32 → ⊥) → behind (drop (i + 1) s) ≡ behind (drop i s)
-  behind_step n = sym (ap behind cons ∙ cond-false (eqb (get_or s i 0) 32) _ _ (ne_eqb _ _ n))
+pub front_is : (text : List ℕ) → take (solid text) text ≡ front text
+front_is [] = refl
+front_is (c ∷ cs) = front_by (eqb c 32) c cs (front_is cs)
 
-  pub front_stop : get_or s i 0 ≡ 32 → take i s ≡ take i s ++ front (drop i s)
-  front_stop e = sym (ap (λ l. take i s ++ l) (ap front cons ∙ cond-true (eqb (get_or s i 0) 32) _ _ (eq-eqb _ _ e)) ∙ append-nil (take i s))
+behind_by : (b : Bool) (c : ℕ) (cs : List ℕ) → drop (solid cs) cs ≡ behind cs → drop (cond b 0 (solid cs + 1)) (c ∷ cs) ≡ cond b (c ∷ cs) (behind cs)
+behind_by true c cs e = refl
+behind_by false c cs e = rw (add-one (solid cs)) e
 
-  pub behind_stop : get_or s i 0 ≡ 32 → drop i s ≡ behind (drop i s)
-  behind_stop e = sym (ap behind cons ∙ cond-true (eqb (get_or s i 0) 32) _ _ (eq-eqb _ _ e) ∙ sym cons)
-
-module _ (s : List ℕ) (i : ℕ) (h : length s ≤ i) where
-  none : drop i s ≡ []
-  none = drop_of_length-le s h
-
-  pub trim_end : drop i s ≡ trimmed (drop i s)
-  trim_end = none ∙ sym (ap trimmed none)
-
-  pub front_end : take i s ≡ take i s ++ front (drop i s)
-  front_end = sym (ap (λ l. take i s ++ front l) none ∙ append-nil (take i s))
-
-  pub behind_end : drop i s ≡ behind (drop i s)
-  behind_end = none ∙ sym (ap behind none)
+pub behind_is : (text : List ℕ) → drop (solid text) text ≡ behind text
+behind_is [] = refl
+behind_is (c ∷ cs) = behind_by (eqb c 32) c cs (behind_is cs)

@@ -1,5 +1,5 @@
 -- The commands of a script, and the lines that write them. Assumes nothing.
-use Rattle.std.specs.Prelude.{◌≡◌, ℕ, List, [], ◌∷◌, Some, None, codes, Option}
+use Rattle.std.specs.Prelude.{◌≡◌, ℕ, Bool, true, false, List, [], ◌∷◌, Some, None, codes, Option}
 use Rattle.layout.specs.Labels.{flag}
 use Rattle.script.specs.declared.command.Command.{Command}
 use Rattle.script.specs.declared.command.Command.TheVariants.{Plan, Map, Label, Rack, OnRack, Lay, Open, OnPool, Show, PoolLabel}
@@ -50,7 +50,7 @@ abbrev pub name_of : Command → Name
 name_of (Plan q d r d' r' L) = Name.Plan
 name_of Map = Name.Map
 name_of (Label after) = Name.Label
-name_of (Rack kind q m s n) = Name.Rack
+name_of (Rack kind size) = Name.Rack
 name_of (OnRack (Get m s o)) = Name.Get
 name_of (OnRack (Put m s o v)) = Name.Put
 name_of (OnRack (Pull m)) = Name.PullModule
@@ -76,7 +76,7 @@ abbrev pub Arguments : List ℕ → Command → Type 0
 Arguments text (Plan q d r d' r' L) = Numbers text (q ∷ d ∷ r ∷ d' ∷ r' ∷ L ∷ [])
 Arguments text Map = Numbers text []
 Arguments text (Label after) = Numbers text (flag after ∷ [])
-Arguments text (Rack kind q m s n) = (word text ≡ kind_name kind) × Numbers (rest text) (q ∷ m ∷ s ∷ n ∷ [])
+Arguments text (Rack kind size) = (word text ≡ kind_name kind) × Numbers (rest text) (size.order ∷ size.modules ∷ size.slots ∷ size.length ∷ [])
 Arguments text (OnRack (Get m s o)) = Numbers text (m ∷ s ∷ o ∷ [])
 Arguments text (OnRack (Put m s o v)) = Numbers text (m ∷ s ∷ o ∷ v ∷ [])
 Arguments text (OnRack (Pull m)) = Numbers text (m ∷ [])
@@ -100,10 +100,27 @@ Arguments text PoolLabel = Numbers text []
 abbrev pub Writes : List ℕ → Command → Type 0
 Writes line c = (word line ≡ spelled (name_of c)) × Arguments (rest line) c
 
--- what reading a line answers: the command that it writes, if it writes one
-abbrev pub Understood : List ℕ → Option Command → Type 0
-Understood line (Some c) = Writes line c
-Understood line None = (c : Command) → Writes line c → ⊥
+-- a command of pools
+abbrev pub of_pools : Command → Bool
+of_pools (Plan q d r d' r' L) = false
+of_pools Map = false
+of_pools (Label after) = false
+of_pools (Rack kind size) = false
+of_pools (OnRack c) = false
+of_pools (Lay f) = true
+of_pools (Open f bytes) = true
+of_pools (OnPool c) = true
+of_pools Show = true
+of_pools PoolLabel = true
+
+-- a line writes a command of plans, labels and racks
+abbrev pub WritesWithoutPools : List ℕ → Command → Type 0
+WritesWithoutPools line c = Writes line c × (of_pools c ≡ false)
+
+-- what reading a line answers, by which lines write which commands: the command that it writes, if it writes one
+abbrev pub Understood : (List ℕ → Command → Type 0) → List ℕ → Option Command → Type 0
+Understood writes line (Some c) = writes line c
+Understood writes line None = (c : Command) → writes line c → ⊥
 
 -- the same of what stands after a name
 abbrev pub Takes : Name → List ℕ → Option Command → Type 0

@@ -1,5 +1,8 @@
 // The commands of a script.
+ghost use Rattle.std.specs.Prelude.{◌≡◌};
+
 use pool::kinds::Call;
+use rack::Size;
 
 /// A command of a script.
 #[derive(Clone, Copy)]
@@ -10,8 +13,8 @@ pub enum Command {
     Map,
     /// shows the label of the plan, before its changeover or after it
     Label(bool),
-    /// makes a rack that later lines use: order, modules, slots, length
-    Rack(RackKind, u16, u16, u16, u16),
+    /// makes a rack that later lines use
+    Rack(RackKind, Size),
     /// a call on the rack
     OnRack(RackCall),
     /// lays a pool over the rack
@@ -24,6 +27,28 @@ pub enum Command {
     Show,
     /// shows the label of the pool
     PoolLabel,
+}
+
+impl Command {
+    ghost use Rattle.script.specs.Script.{of_pools};
+
+    /// Whether this is a command of pools, and none of plans, labels and racks.
+    pub fn is_of_pools(&self) -> bool
+        ensures { result ≡ of_pools self.now }
+    {
+        match self {
+            Command::Plan(..)
+            | Command::Map
+            | Command::Label(_)
+            | Command::Rack(..)
+            | Command::OnRack(_) => false,
+            Command::Lay(_)
+            | Command::Open(..)
+            | Command::OnPool(_)
+            | Command::Show
+            | Command::PoolLabel => true,
+        }
+    }
 }
 
 /// The three fields.

@@ -1,128 +1,130 @@
 // The commands of a script, as its lines write them.
-ghost use Rattle.std.specs.Prelude.{◌≡◌, ℕ, List, Some, MatchOption, ◌≢◌};
-ghost use Rattle.script.specs.Plain.{Plain, arity, firsts};
-ghost use Rattle.script.specs.Words.{Numbers};
-ghost use Rattle.script.specs.Script.{spelled, kind_name, field_name, Takes, Understood};
+ghost use Rattle.std.specs.Prelude.{◌≡◌, ℕ, List, MatchOption, ◌≢◌};
+ghost use Rattle.script.specs.Script.{Writes, Takes, Understood};
 
 use crate::command::{Command, FieldKind, Name, RackCall, RackKind};
 use crate::words::{hex_word, is_blank, numbers, split_word};
 use pool::kinds::Call;
+use rack::Size;
 
-// All names.
-const NAMES: [Name; 21] = [
-    Name::Plan,
-    Name::Map,
-    Name::Label,
-    Name::Rack,
-    Name::Get,
-    Name::Put,
-    Name::PullModule,
-    Name::FitModule,
-    Name::Ask,
-    Name::Lay,
-    Name::Open,
-    Name::Read,
-    Name::Write,
-    Name::Pull,
-    Name::Refit,
-    Name::Begin,
-    Name::Carry,
-    Name::Ready,
-    Name::Close,
-    Name::Drop,
-    Name::Show,
-];
+// A value that one word spells.
+trait Spelled: Copy + 'static {
+    ghost use Rattle.std.specs.List.{Contains};
 
-// How a name is spelled.
-fn spelling(name: Name) -> &'static [u8]
-    ensures { result.now ≡ spelled name }
-{
-    match name {
-        Name::Plan => b"plan",
-        Name::Map => b"map",
-        Name::Label => b"label",
-        Name::Rack => b"rack",
-        Name::Get => b"get",
-        Name::Put => b"put",
-        Name::PullModule => b"pull-module",
-        Name::FitModule => b"fit-module",
-        Name::Ask => b"ask",
-        Name::Lay => b"lay",
-        Name::Open => b"open",
-        Name::Read => b"read",
-        Name::Write => b"write",
-        Name::Pull => b"pull",
-        Name::Refit => b"refit",
-        Name::Begin => b"begin",
-        Name::Carry => b"carry",
-        Name::Ready => b"ready",
-        Name::Close => b"close",
-        Name::Drop => b"drop",
-        Name::Show => b"show",
-    }
+    // How it is spelled.
+    ghost spelled: { Self → List ℕ };
+
+    fn spelling(self) -> &'static [u8]
+        ensures { result.now ≡ spelled self };
+
+    // All values of the type.
+    fn all() -> &'static [Self]
+        ensures { (x : Self) → Contains result.now x };
 }
 
-// The name that a word spells.
-fn name_of(word: &[u8]) -> Option<Name>
-    ensures { MatchOption result ((n : Name) → word.now ≢ spelled n) (λ n. word.now ≡ spelled n) }
+// The value that a word spells.
+fn spelled_by<T: Spelled + 'static>(word: &[u8]) -> Option<T>
+    ensures { MatchOption result ((x : T) → word.now ≢ T.spelled x) (λ x. word.now ≡ T.spelled x) }
 {
-    for name in NAMES {
-        if word == spelling(name) {
-            return Some(name);
+    for value in T::all() {
+        if word == value.spelling() {
+            return Some(*value);
         }
     }
     None
 }
 
-// How many numbers stand after a name.
-fn arity_of(name: Name) -> usize
-    ensures { result ≡ arity name }
-{
-    match name {
-        Name::Plan => 6,
-        Name::Rack | Name::Put => 4,
-        Name::Get | Name::Write => 3,
-        Name::Read => 2,
-        Name::Label | Name::PullModule | Name::FitModule | Name::Ask | Name::Pull | Name::Refit =>
-            1,
-        _ => 0,
+impl Spelled for Name {
+    ghost use Rattle.script.specs.Script.{spelled};
+
+    ghost spelled = { spelled };
+
+    fn spelling(self) -> &'static [u8] {
+        match self {
+            Name::Plan => b"plan",
+            Name::Map => b"map",
+            Name::Label => b"label",
+            Name::Rack => b"rack",
+            Name::Get => b"get",
+            Name::Put => b"put",
+            Name::PullModule => b"pull-module",
+            Name::FitModule => b"fit-module",
+            Name::Ask => b"ask",
+            Name::Lay => b"lay",
+            Name::Open => b"open",
+            Name::Read => b"read",
+            Name::Write => b"write",
+            Name::Pull => b"pull",
+            Name::Refit => b"refit",
+            Name::Begin => b"begin",
+            Name::Carry => b"carry",
+            Name::Ready => b"ready",
+            Name::Close => b"close",
+            Name::Drop => b"drop",
+            Name::Show => b"show",
+        }
+    }
+
+    fn all() -> &'static [Name] {
+        &[
+            Name::Plan,
+            Name::Map,
+            Name::Label,
+            Name::Rack,
+            Name::Get,
+            Name::Put,
+            Name::PullModule,
+            Name::FitModule,
+            Name::Ask,
+            Name::Lay,
+            Name::Open,
+            Name::Read,
+            Name::Write,
+            Name::Pull,
+            Name::Refit,
+            Name::Begin,
+            Name::Carry,
+            Name::Ready,
+            Name::Close,
+            Name::Drop,
+            Name::Show,
+        ]
     }
 }
 
-// The command of a name with these numbers, of which it takes the first.
-fn with_numbers(name: Name, numbers: [u16; 6]) -> Command
-    requires { Plain name }
-    ensures { (text : List ℕ) → Numbers text (firsts (arity name) numbers) → Takes name text (Some result) }
-{
-    let [a, b, c, d, e, f] = numbers;
-    match name {
-        Name::Plan => Command::Plan(a, b, c, d, e, f),
-        Name::Map => Command::Map,
-        Name::Get => Command::OnRack(RackCall::Get(a, b, c)),
-        Name::Put => Command::OnRack(RackCall::Put(a, b, c, d)),
-        Name::PullModule => Command::OnRack(RackCall::Pull(a)),
-        Name::FitModule => Command::OnRack(RackCall::Fit(a)),
-        Name::Ask => Command::OnRack(RackCall::Ask(a)),
-        Name::Read => Command::OnPool(Call::Read(a, b)),
-        Name::Write => Command::OnPool(Call::Write(a, b, c)),
-        Name::Pull => Command::OnPool(Call::Pull(a)),
-        Name::Refit => Command::OnPool(Call::Refit(a)),
-        Name::Begin => Command::OnPool(Call::Begin),
-        Name::Carry => Command::OnPool(Call::Carry),
-        Name::Ready => Command::OnPool(Call::Ready),
-        Name::Close => Command::OnPool(Call::Close),
-        Name::Drop => Command::OnPool(Call::Drop),
-        Name::Show => Command::Show,
-        Name::Label | Name::Rack | Name::Lay | Name::Open => unreachable(),
+impl Spelled for RackKind {
+    ghost use Rattle.script.specs.Script.{kind_name};
+
+    ghost spelled = { kind_name };
+
+    fn spelling(self) -> &'static [u8] {
+        match self {
+            RackKind::Flat => b"flat",
+            RackKind::Turning => b"turning",
+        }
+    }
+
+    fn all() -> &'static [RackKind] {
+        &[RackKind::Flat, RackKind::Turning]
     }
 }
 
-// A command that is a name and numbers.
-fn plain_command(name: Name, text: &[u8]) -> Option<Command>
-    requires { Plain name }
-    ensures { Takes name text.now result }
-{
-    Some(with_numbers(name, numbers(text, arity_of(name))?))
+impl Spelled for FieldKind {
+    ghost use Rattle.script.specs.Script.{field_name};
+
+    ghost spelled = { field_name };
+
+    fn spelling(self) -> &'static [u8] {
+        match self {
+            FieldKind::Byte => b"byte",
+            FieldKind::Nibble => b"nibble",
+            FieldKind::Prime => b"prime",
+        }
+    }
+
+    fn all() -> &'static [FieldKind] {
+        &[FieldKind::Byte, FieldKind::Nibble, FieldKind::Prime]
+    }
 }
 
 // The label of the pool, or with a flag that of the plan.
@@ -132,23 +134,11 @@ fn label_command(text: &[u8]) -> Option<Command>
     if is_blank(text) {
         return Some(Command::PoolLabel);
     }
-    let [flag, ..] = numbers(text, 1)?;
-    if flag > 1 {
-        return None;
-    }
-    Some(Command::Label(flag == 1))
-}
-
-// The kind of rack that a word spells.
-fn kind_of(word: &[u8]) -> Option<RackKind>
-    ensures { MatchOption result ((k : RackKind) → word.now ≢ kind_name k) (λ k. word.now ≡ kind_name k) }
-{
-    if word == b"flat".as_slice() {
-        Some(RackKind::Flat)
-    } else if word == b"turning".as_slice() {
-        Some(RackKind::Turning)
-    } else {
-        None
+    let [flag] = numbers::<1>(text)?;
+    match flag {
+        0 => Some(Command::Label(false)),
+        1 => Some(Command::Label(true)),
+        _ => None,
     }
 }
 
@@ -156,31 +146,22 @@ fn rack_command(text: &[u8]) -> Option<Command>
     ensures { Takes Name.Rack text.now result }
 {
     let (word, rest) = split_word(text);
-    let kind = kind_of(word)?;
-    let [order, modules, slots, length, ..] = numbers(rest, 4)?;
-    Some(Command::Rack(kind, order, modules, slots, length))
-}
-
-// The field that a word spells.
-fn field_of(word: &[u8]) -> Option<FieldKind>
-    ensures { MatchOption result ((f : FieldKind) → word.now ≢ field_name f) (λ f. word.now ≡ field_name f) }
-{
-    if word == b"byte".as_slice() {
-        Some(FieldKind::Byte)
-    } else if word == b"nibble".as_slice() {
-        Some(FieldKind::Nibble)
-    } else if word == b"prime".as_slice() {
-        Some(FieldKind::Prime)
-    } else {
-        None
-    }
+    let kind = spelled_by(word)?;
+    let [order, modules, slots, length] = numbers::<4>(rest)?;
+    let size = Size {
+        order,
+        modules,
+        slots,
+        length,
+    };
+    Some(Command::Rack(kind, size))
 }
 
 fn lay_command(text: &[u8]) -> Option<Command>
     ensures { Takes Name.Lay text.now result }
 {
     let (word, rest) = split_word(text);
-    let field = field_of(word)?;
+    let field = spelled_by(word)?;
     if is_blank(rest) {
         Some(Command::Lay(field))
     } else {
@@ -192,7 +173,7 @@ fn open_command(text: &[u8]) -> Option<Command>
     ensures { Takes Name.Open text.now result }
 {
     let (word, rest) = split_word(text);
-    let field = field_of(word)?;
+    let field = spelled_by(word)?;
     let (digits, rest) = split_word(rest);
     let label = hex_word(digits)?;
     if is_blank(rest) {
@@ -202,16 +183,90 @@ fn open_command(text: &[u8]) -> Option<Command>
     }
 }
 
+// The command of a name that a text writes the arguments of.
+fn command_of(name: Name, text: &[u8]) -> Option<Command>
+    ensures { Takes name text.now result }
+{
+    match name {
+        Name::Plan => {
+            let [order, d, r, d2, r2, len] = numbers::<6>(text)?;
+            Some(Command::Plan(order, d, r, d2, r2, len))
+        }
+        Name::Map => {
+            let [] = numbers::<0>(text)?;
+            Some(Command::Map)
+        }
+        Name::Label => label_command(text),
+        Name::Rack => rack_command(text),
+        Name::Get => {
+            let [module, slot, offset] = numbers::<3>(text)?;
+            Some(Command::OnRack(RackCall::Get(module, slot, offset)))
+        }
+        Name::Put => {
+            let [module, slot, offset, symbol] = numbers::<4>(text)?;
+            Some(Command::OnRack(RackCall::Put(module, slot, offset, symbol)))
+        }
+        Name::PullModule => {
+            let [module] = numbers::<1>(text)?;
+            Some(Command::OnRack(RackCall::Pull(module)))
+        }
+        Name::FitModule => {
+            let [module] = numbers::<1>(text)?;
+            Some(Command::OnRack(RackCall::Fit(module)))
+        }
+        Name::Ask => {
+            let [module] = numbers::<1>(text)?;
+            Some(Command::OnRack(RackCall::Ask(module)))
+        }
+        Name::Lay => lay_command(text),
+        Name::Open => open_command(text),
+        Name::Read => {
+            let [chunk, offset] = numbers::<2>(text)?;
+            Some(Command::OnPool(Call::Read(chunk, offset)))
+        }
+        Name::Write => {
+            let [chunk, offset, symbol] = numbers::<3>(text)?;
+            Some(Command::OnPool(Call::Write(chunk, offset, symbol)))
+        }
+        Name::Pull => {
+            let [module] = numbers::<1>(text)?;
+            Some(Command::OnPool(Call::Pull(module)))
+        }
+        Name::Refit => {
+            let [module] = numbers::<1>(text)?;
+            Some(Command::OnPool(Call::Refit(module)))
+        }
+        Name::Begin => {
+            let [] = numbers::<0>(text)?;
+            Some(Command::OnPool(Call::Begin))
+        }
+        Name::Carry => {
+            let [] = numbers::<0>(text)?;
+            Some(Command::OnPool(Call::Carry))
+        }
+        Name::Ready => {
+            let [] = numbers::<0>(text)?;
+            Some(Command::OnPool(Call::Ready))
+        }
+        Name::Close => {
+            let [] = numbers::<0>(text)?;
+            Some(Command::OnPool(Call::Close))
+        }
+        Name::Drop => {
+            let [] = numbers::<0>(text)?;
+            Some(Command::OnPool(Call::Drop))
+        }
+        Name::Show => {
+            let [] = numbers::<0>(text)?;
+            Some(Command::Show)
+        }
+    }
+}
+
 /// The command that a line writes.
 pub fn parse(line: &[u8]) -> Option<Command>
-    ensures { Understood line.now result }
+    ensures { Understood Writes line.now result }
 {
     let (word, rest) = split_word(line);
-    match name_of(word)? {
-        Name::Label => label_command(rest),
-        Name::Rack => rack_command(rest),
-        Name::Lay => lay_command(rest),
-        Name::Open => open_command(rest),
-        name => plain_command(name, rest),
-    }
+    command_of(spelled_by(word)?, rest)
 }

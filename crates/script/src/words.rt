@@ -1,35 +1,18 @@
 // The words of a line, and what they write.
-ghost use Rattle.std.specs.Prelude.{◌≡◌, ℕ, ◌+◌, ◌*◌, ◌<◌, ◌≤◌, List, [], length, take, drop, Decides, Option, MatchOption};
-ghost use Rattle.script.specs.Plain.{firsts};
-ghost use Rattle.script.specs.Words.{trimmed, front, behind, word, rest, Numbered, Numbers, hex_bytes, HexWord};
+ghost use Rattle.std.specs.Prelude.{◌≡◌, ℕ, ◌+◌, ◌*◌, ◌<◌, List, [], length, Decides, Option, MatchOption};
+ghost use Rattle.script.specs.Words.{trimmed, word, rest, Numbered, Numbers, hex_bytes, HexWord};
 ghost use Rattle.std.specs.Str.Parse.{AllDigits};
 ghost use Rattle.std.specs.Char.{digit_value};
 
-// How many spaces a text begins with.
-fn spaces(text: &[u8]) -> usize
-    ensures within { result ≤ length text.now }
-    ensures value { drop result text.now ≡ trimmed text.now }
+// A text from its first byte that is no space on.
+fn trimmed(text: &[u8]) -> &[u8]
+    ensures { result.now ≡ trimmed text.now }
 {
-    for (i, c) in text.iter().enumerate() {
-        if *c != b' ' {
-            return i;
-        }
+    let mut left = text;
+    while let [b' ', rest @ ..] = left {
+        left = rest;
     }
-    text.len()
-}
-
-// How many bytes stand before the first space of a text.
-fn solid(text: &[u8]) -> usize
-    ensures within { result ≤ length text.now }
-    ensures before { take result text.now ≡ front text.now }
-    ensures after { drop result text.now ≡ behind text.now }
-{
-    for (i, c) in text.iter().enumerate() {
-        if *c == b' ' {
-            return i;
-        }
-    }
-    text.len()
+    left
 }
 
 // The first word of a text, and what stands after it.
@@ -37,8 +20,9 @@ pub(crate) fn split_word(text: &[u8]) -> (&[u8], &[u8])
     ensures word { result.0.now ≡ word text.now }
     ensures rest { result.1.now ≡ rest text.now }
 {
-    let (_, text) = text.split_at(spaces(text));
-    text.split_at(solid(text))
+    let text = trimmed(text);
+    let end = text.iter().position(|c| *c == b' ').unwrap_or(text.len());
+    text.split_at(end)
 }
 
 // The number that a word writes.
@@ -48,14 +32,12 @@ fn number(word: &[u8]) -> Option<u16>
     if word.is_empty() {
         return None;
     }
-    let mut n: u32 = 0;
+    let mut n: u16 = 0;
     for c in word {
-        if *c < b'0' || *c > b'9' {
-            return None;
-        }
-        n = (n * 10 + u32::from(*c - b'0')).min(65536);
+        let digit = char::from(*c).to_digit(10)? as u16;
+        n = n.checked_mul(10)?.checked_add(digit)?;
     }
-    if n < 65536 { Some(n as u16) } else { None }
+    Some(n)
 }
 
 // Whether no word stands in a text.
@@ -66,16 +48,15 @@ pub(crate) fn is_blank(text: &[u8]) -> bool
     word.is_empty()
 }
 
-// The numbers that the words of a text write, if there are just so many and each is a number.
-pub(crate) fn numbers(text: &[u8], count: usize) -> Option<[u16; 6]>
-    requires { count ≤ 6 }
-    ensures { MatchOption result ((ns : List ℕ) → length ns ≡ count → Numbers text.now ns → ⊥) (λ ns. Numbers text.now (firsts count ns)) }
+// The numbers that the words of a text write, if there are just N and each is a number.
+pub(crate) fn numbers<const N: usize>(text: &[u8]) -> Option<[u16; N]>
+    ensures { MatchOption result ((ns : List ℕ) → length ns ≡ N → Numbers text.now ns → ⊥) (λ ns. (length ns ≡ N) × Numbers text.now ns) }
 {
-    let mut out = [0; 6];
+    let mut out = [0; N];
     let mut left = text;
-    for i in 0..count {
+    for n in &mut out {
         let (word, rest) = split_word(left);
-        out[i] = number(word)?;
+        *n = number(word)?;
         left = rest;
     }
     if is_blank(left) { Some(out) } else { None }
@@ -85,12 +66,7 @@ pub(crate) fn numbers(text: &[u8], count: usize) -> Option<[u16; 6]>
 fn is_hex(word: &[u8]) -> bool
     ensures { Decides result (AllDigits 16 word.now) }
 {
-    for c in word {
-        if !char::from(*c).is_digit(16) {
-            return false;
-        }
-    }
-    true
+    word.iter().all(|c| char::from(*c).is_digit(16))
 }
 
 // The value of a hexadecimal digit.
@@ -118,8 +94,13 @@ fn hex_bytes(word: &[u8]) -> [u8; 16]
     ensures { result ≡ hex_bytes word.now }
 {
     let mut out = [0; 16];
-    for i in 0..16 {
-        out[i] = hex_byte(word[2 * i], word[2 * i + 1]);
+    let mut left = word;
+    for byte in &mut out {
+        let [high, low, rest @ ..] = left else {
+            unreachable!()
+        };
+        *byte = hex_byte(*high, *low);
+        left = rest;
     }
     out
 }

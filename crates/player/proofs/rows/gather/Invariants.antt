@@ -1,12 +1,11 @@
-use Rattle.std.proofs.Common.{◌≡◌, ℕ, ◌-◌, ◌≤◌, List, ◌++◌, length, drop, vec_items}
+use Rattle.std.proofs.Common.{◌≡◌, ℕ, List, ◌++◌, length, vec_items}
 use Rattle.player.specs.Rows.{CallsIn}
+use Rattle.player.specs.Sessions.{kept}
 use Rattle.player.specs.Transcripts.{lines}
 use Rattle.player.proofs.rows.gather.Given as goal
 
-abbrev pub invariant-loop-at : goal.invariant-loop-at
-invariant-loop-at l =
-    (l.initial.at ≤ l.at) × (l.at ≤ length l.script) × (l.lines ≤ l.at)
-    × ((part : List (List ℕ)) × (length part ≡ l.lines) × (lines (drop l.initial.at l.script) ≡ part ++ lines (drop l.at l.script)) × CallsIn part (vec_items l.calls))
+abbrev pub invariant-loop-line : goal.invariant-loop-line
+invariant-loop-line g l = (part : List (List ℕ)) × (kept (lines l.text) ≡ part ++ kept (lines l.left)) × CallsIn g.L.Language.writes part (vec_items l.calls)
 
-abbrev pub decreases-loop-at : goal.decreases-loop-at
-decreases-loop-at l = length l.script - l.at
+abbrev pub decreases-loop-line : goal.decreases-loop-line
+decreases-loop-line g l = length l.left

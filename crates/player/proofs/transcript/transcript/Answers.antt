@@ -1,34 +1,40 @@
-use Rattle.std.proofs.Common.{drop, None, vec_items, subst}
+use Rattle.std.proofs.Common.{◌≡◌, ◌<◌, [], length, None, vec_items, refl, subst}
 use Rattle.player.specs.Answers.{state, nothing}
-use Rattle.player.specs.Holding.{memory_by}
-use Rattle.player.specs.Transcripts.{lines, Sofar}
-use Rattle.player.proofs.Printing.{all_printed}
-use Rattle.player.proofs.Parts.{ends_then, rack_in_lem, falls_by_rack, ended}
+use Rattle.player.specs.Sessions.{kept, Sofar, lines_left, next_memory}
+use Rattle.player.specs.Transcripts.{lines}
+use Rattle.player.proofs.Parts.{begun, ended, falls, if_none}
 use Rattle.player.proofs.transcript.transcript.Goals as goal
 
-pub loop-request-smaller : goal.loop-request-smaller
-loop-request-smaller c =
-    let h = c.in_ok-stop-2.ensures in
-    falls_by_rack c.loop-request.stop.request c.in_ok-stop-2.stop.request c.loop-request.stop.played c.in_ok-stop-2.stop.played c.args.script.now (rack_in_lem c.loop-request.stop.request c.in-Some.request c.in-Some.ensures) h.1
+pub loop-asked-init : goal.loop-asked-init
+loop-asked-init g c =
+    let h = c.in_ok-asked.ensures in
+    let b = c.new-session.result in
+    let e = c.play.new.self in
+    let start = c.new-session.ensures in
+    record {
+      makeable = h.0;
+      ended = if_none c.in_ok-asked.asked (lines_left e ≡ []) (length e.left.now < length b.left.now) h.1.how;
+      sofar = begun g.L.Language.writes b e c.args.script.now _ (next_memory c.in_ok-asked.asked) start.out start.plan start.left (rw c.no_rack.ensures refl) h.2;
+    }
 
-pub loop-request-preserved : goal.loop-request-preserved
-loop-request-preserved c =
-    let s = c.args.script.now in
-    let inv = c.loop-request.invariant in
-    let h = c.in_ok-stop-2.ensures in
-    let old = c.loop-request.stop in
-    let new = c.in_ok-stop-2.stop in (
-      h.0,
-      ends_then new.request 0 old.played new.played s inv.1.rises h.1,
-      h.2 (state None nothing) (lines s)
-          (subst (λ r. Sofar (state None nothing) (lines s) (state old.plan (memory_by r nothing)) (lines (drop old.played s)) (vec_items c.loop-request.out)) (rack_in_lem old.request c.in-Some.request c.in-Some.ensures) inv.2),
-    )
+pub loop-asked-smaller : goal.loop-asked-smaller
+loop-asked-smaller g c = falls c.loop-asked.asked c.in_ok-asked-2.asked c.loop-asked.session c.play_on.new.self c.in-Some.is c.in_ok-asked-2.ensures.1
+
+pub loop-asked-preserved : goal.loop-asked-preserved
+loop-asked-preserved g c =
+    let W = g.L.Language.writes in
+    let h = c.in_ok-asked-2.ensures in
+    let s = c.loop-asked.session in
+    let e = c.play_on.new.self in
+    record {
+      makeable = h.0;
+      ended = if_none c.in_ok-asked-2.asked (lines_left e ≡ []) (length e.left.now < length s.left.now) h.1.how;
+      sofar = h.2 (state None nothing) (kept (lines c.args.script.now))
+          (subst (λ r. Sofar W (state None nothing) (kept (lines c.args.script.now)) (state s.plan (next_memory r)) (lines_left s) (vec_items s.out)) c.in-Some.is c.loop-asked.invariant.sofar);
+    }
 
 pub returns : goal.returns
-returns c =
-    let s = c.args.script.now in
-    let inv = c.loop-request.invariant in
-    let stop = c.loop-request.stop in
-    let none = ended stop.request stop.played s inv.0 c.in_default.ensures inv.1 in
-    all_printed (state None nothing) (state stop.plan (memory_by stop.request nothing)) (lines s) (vec_items c.loop-request.out)
-    (subst (λ l. Sofar (state None nothing) (lines s) (state stop.plan (memory_by stop.request nothing)) l (vec_items c.loop-request.out)) none inv.2)
+returns g c =
+    let s = c.loop-asked.session in
+    let inv = c.loop-asked.invariant in
+    ended g.L.Language.writes s c.args.script.now (state s.plan (next_memory c.loop-asked.asked)) (rw c.in_default.is at inv.ended) inv.sofar

@@ -1,14 +1,17 @@
-use Rattle.std.proofs.Common.{◌+◌, ◌-◌, ◌*◌, length, drop, None, vec_items}
+use Rattle.std.proofs.Common.{◌≡◌, ◌+◌, ◌*◌, [], length, IfNone, None, vec_items}
 use Rattle.player.specs.Answers.{state, nothing}
-use Rattle.player.specs.Holding.{memory_by, Racks}
-use Rattle.player.specs.Transcripts.{lines, Sofar, Ends}
-use Rattle.player.proofs.transcript.transcript.Given as goal
+use Rattle.player.specs.Sessions.{kept, Sofar, lines_left, next_memory, Makeable}
+use Rattle.player.specs.Transcripts.{lines}
 use Rattle.player.proofs.Parts.{asks}
+use Rattle.player.proofs.transcript.transcript.Given as goal
 
-abbrev pub invariant-loop-request : goal.invariant-loop-request
-invariant-loop-request l =
-    Racks l.stop.request × Ends l.stop.request 0 l.stop.played l.script
-    × Sofar (state None nothing) (lines l.script) (state l.stop.plan (memory_by l.stop.request nothing)) (lines (drop l.stop.played l.script)) (vec_items l.out)
+abbrev pub invariant-loop-asked : goal.invariant-loop-asked
+invariant-loop-asked g l =
+    record {
+      makeable : Makeable l.asked;
+      ended : IfNone l.asked (lines_left l.session ≡ []);
+      sofar : Sofar g.L.Language.writes (state None nothing) (kept (lines l.script)) (state l.session.plan (next_memory l.asked)) (lines_left l.session) (vec_items l.session.out);
+    }
 
-abbrev pub decreases-loop-request : goal.decreases-loop-request
-decreases-loop-request l = 2 * (length l.script - l.stop.played) + asks l.stop.request
+abbrev pub decreases-loop-asked : goal.decreases-loop-asked
+decreases-loop-asked g l = 2 * length l.session.left.now + asks l.asked

@@ -2,12 +2,13 @@ use Rattle.std.proofs.Common.{sym, refl, ◌∙◌, subst}
 use Rattle.script.specs.Words.{Numbers}
 use Rattle.script.specs.declared.command.Name.TheVariants as Name
 use Rattle.script.proofs.Commands.{no_command}
+use Rattle.script.proofs.Numerals.{firsts, numbers_are}
 use Rattle.script.proofs.parse.rack_command.Goals as goal
 
 pub returns : goal.returns
 returns c = (
   refl,
-  (sym c.split_word.ensures.word ∙ c.in_ok-kind.ensures, rw c.split_word.ensures.rest at c.in_ok-order.ensures),
+  (sym c.split_word.ensures.word ∙ c.in_ok-kind.ensures, subst (λ t. Numbers t (firsts 4 c.in_ok-order.field-0)) c.split_word.ensures.rest (numbers_are 4 c.split_word.result.1.now c.in_ok-order.field-0 c.in_ok-order.ensures.0 c.in_ok-order.ensures.1)),
 )
 
 pub returns-in_err-order : goal.returns-in_err-order

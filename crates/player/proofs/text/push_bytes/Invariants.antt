@@ -1,6 +1,0 @@
-use Rattle.std.proofs.Common.{◌≡◌, ◌++◌, take, string_bytes}
-use Rattle.player.specs.Texts.{hex_text}
-use Rattle.player.proofs.text.push_bytes.Given as goal
-
-abbrev pub invariant-loop-b : goal.invariant-loop-b
-invariant-loop-b l = string_bytes l.out ≡ string_bytes l.initial.out ++ hex_text (take l.b-index l.bytes)
