@@ -5,7 +5,7 @@ use Rattle.field.specs.Arithmetic.{Arithmetic}
 use Rattle.layout.specs.declared.plan.Plan.{Plan}
 use Rattle.coding.specs.Schemes.{Scheme, scheme_of}
 use Rattle.pool.specs.declared.kinds.Call.{Call}
-use Rattle.pool.specs.declared.kinds.Answer.{Answer}
+use Rattle.pool.specs.Replies.{Answer}
 use Rattle.pool.specs.Book.{Book, after}
 use Rattle.pool.specs.Standing.{Standing}
 use Rattle.pool.specs.Law.{Runs, Plays}

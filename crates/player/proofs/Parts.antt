@@ -19,7 +19,7 @@ use Rattle.player.specs.Rows.{row_text, ReadsNext, Gathered}
 use Rattle.player.specs.declared.session.Session.{Session}
 use Rattle.coding.specs.Schemes.{scheme_of}
 use Rattle.pool.specs.declared.kinds.Call.{Call}
-use Rattle.pool.specs.declared.kinds.Answer.{Answer}
+use Rattle.pool.specs.Replies.{Answer}
 use Rattle.pool.specs.Law as law
 use Rattle.player.proofs.Printing.{answered, kept_head, printed_kept}
 use Rattle.player.proofs.Calling.{calls_many, told_many, row_goes}

@@ -18,7 +18,7 @@ use Rattle.script.specs.declared.command.RackCall.{RackCall}
 use Rattle.pool.specs.declared.kinds.Call.{Call}
 use Rattle.field.specs.Arithmetic.{Arithmetic}
 use Rattle.script.specs.declared.command.FieldKind.{FieldKind}
-use Rattle.player.specs.Texts.{refused_text}
+use Rattle.layout.specs.Rules.{refused_text}
 use Rattle.player.specs.Answers.{Memory, pooled, rack_in, State, state, arithmetic_of, Says, Lays, Opens, label_bytes, opened_over, Responds}
 use Rattle.player.specs.Holding.{started_over, started_on, memory_by, Fits, Possible, PlanSet, wanted_refusal, Starts, PoolAsked, LayAsked, IsAlike}
 

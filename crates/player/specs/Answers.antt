@@ -17,11 +17,13 @@ use Rattle.field.specs.Prime.{prime}
 use Rattle.layout.specs.declared.label.Label as layout-label
 use Rattle.coding.specs.Schemes.{scheme_of}
 use Rattle.pool.specs.declared.kinds.Call.{Call}
-use Rattle.pool.specs.declared.kinds.Answer.{Answer}
+use Rattle.pool.specs.Replies.{Answer}
 use Rattle.pool.specs.Standing.{Standing}
 use Rattle.pool.specs.Effects.{Does}
-use Rattle.pool.specs.Openings.{lay_refusal, open_refusal, laid_over, opened_phase, is_after}
-use Rattle.player.specs.Texts.{refused_text, map_text, label_text}
+use Rattle.pool.specs.Book.{opened_phase}
+use Rattle.pool.specs.Openings.{lay_refusal, open_refusal, laid_over, is_after}
+use Rattle.layout.specs.Rules.{refused_text}
+use Rattle.player.specs.Texts.{map_text, label_text}
 use Rattle.player.specs.Shows.{answer_text, show_text}
 
 -- the answer that a plan gives, or that there is none yet

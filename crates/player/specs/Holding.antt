@@ -23,7 +23,7 @@ use Rattle.player.specs.declared.request.Wanted.{Wanted}
 use Rattle.player.specs.declared.request.Wanted.TheVariants.{Lay, Open}
 use Rattle.player.specs.declared.request.Request.{Request}
 use Rattle.player.specs.declared.request.Request.TheVariants as request
-use Rattle.player.specs.Texts.{refused_text}
+use Rattle.layout.specs.Rules.{refused_text}
 use Rattle.player.specs.Answers.{Memory, nothing, bare, pooled, rack_in, arithmetic_of, got_text, done_text, asked_text, label_bytes, opened_over}
 
 -- the text of what a call on the rack came to

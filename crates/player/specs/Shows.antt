@@ -1,22 +1,22 @@
 -- The texts that the program prints for a pool. Assumes nothing.
-use Rattle.std.specs.Prelude.{ℕ, cond, List, [], ◌∷◌, ◌++◌, codes, decimal}
+use Rattle.std.specs.Prelude.{ℕ, cond, List, [], ◌∷◌, ◌++◌, codes, decimal, Ok, Err}
 use Rattle.layout.specs.declared.plan.Plan.{Plan}
 use Rattle.layout.specs.Counts.{modules_of, slots_of}
 use Rattle.rack.specs.Meaning.{Meaning}
 use Rattle.pool.specs.declared.kinds.Phase.{Phase}
 use Rattle.pool.specs.declared.kinds.Phase.TheVariants.{Before, UnderWay, Voided, After}
-use Rattle.pool.specs.declared.kinds.Answer.{Answer}
-use Rattle.pool.specs.declared.kinds.Answer.TheVariants.{Symbol, Carried, Done, Refused}
+use Rattle.pool.specs.Replies.{Answer}
+use Rattle.pool.specs.declared.kinds.Reply.TheVariants.{Symbol, Carried, Done}
 use Rattle.pool.specs.Book.{phase_number}
-use Rattle.player.specs.Texts.{refused_text}
+use Rattle.layout.specs.Rules.{refused_text}
 use Rattle.player.specs.Texts.{each}
 
 -- what a call of a pool answers: a symbol, the data and parity chunks that were read, that it is done, or a refusal
 abbrev pub answer_text : Answer → List ℕ
-answer_text (Symbol v) = codes "ok " ++ decimal v
-answer_text (Carried chunks parities) = codes "ok " ++ (decimal chunks ++ (codes " " ++ decimal parities))
-answer_text Done = codes "ok"
-answer_text (Refused e) = refused_text e
+answer_text (Ok (Symbol v)) = codes "ok " ++ decimal v
+answer_text (Ok (Carried chunks parities)) = codes "ok " ++ (decimal chunks ++ (codes " " ++ decimal parities))
+answer_text (Ok Done) = codes "ok"
+answer_text (Err e) = refused_text e
 
 -- the stripes that are carried, of n that a pool has counted: none outside a changeover
 abbrev pub carried_now : Phase → ℕ → ℕ

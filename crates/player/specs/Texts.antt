@@ -1,10 +1,7 @@
--- The texts of refusals and of plans, and the pieces that they are made of. Assumes nothing.
+-- The texts of plans, and the pieces that they are made of. Assumes nothing.
 use Rattle.std.specs.Prelude.{ℕ, zero, suc, ◌/◌, ◌%◌, Bool, List, [], ◌∷◌, ◌++◌, codes, decimal}
 use Rattle.std.specs.Char.{digit_char}
 use Rattle.layout.specs.declared.plan.Plan as layout-plan
-use Rattle.layout.specs.declared.refusal.Refusal.{Refusal}
-use Rattle.layout.specs.declared.refusal.Layer.{Layer}
-use Rattle.layout.specs.declared.refusal.Layer.TheVariants as layer
 use Rattle.layout.specs.Placing.{chunks_of, stripes_of, rows_of, chunk_at, home_of}
 use Rattle.layout.specs.Counts.{data_read, parities_read, modules_of, slots_of}
 use Rattle.layout.specs.Labels.{label_of}
@@ -18,15 +15,6 @@ each (suc n) f = each n f ++ f n
 abbrev pub hex_text : List ℕ → List ℕ
 hex_text [] = []
 hex_text (b ∷ bs) = 32 ∷ digit_char (b / 16) ∷ digit_char (b % 16) ∷ hex_text bs
-
-abbrev pub layer_name : Layer → List ℕ
-layer_name layer.Rack = codes "rack"
-layer_name layer.Layout = codes "layout"
-layer_name layer.Pool = codes "pool"
-layer_name layer.Coding = codes "coding"
-
-abbrev pub refused_text : Refusal → List ℕ
-refused_text e = codes "refused " ++ (decimal e.number ++ (codes " " ++ (layer_name e.layer ++ (codes " " ++ decimal e.place))))
 
 -- the sizes of a plan
 abbrev pub sizes_text : layout-plan.Plan → List ℕ

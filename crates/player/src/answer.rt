@@ -10,7 +10,7 @@ use crate::{pools, racks, text};
 use field::Field;
 use layout::label::Label;
 use layout::plan::Plan;
-use layout::refusal::{Layer, Refusal};
+use layout::refusal::Refusal;
 use pool::pool::Pool;
 use rack::Rack;
 use script::command::Command;
@@ -29,7 +29,7 @@ fn set_plan(
             *plan = Some(new);
             String::from_str(heap, "ok")
         }
-        Err(refusal) => text::refused(heap, refusal),
+        Err(refusal) => format!(in heap; "{refusal}"),
     }
 }
 
@@ -66,12 +66,8 @@ fn ask_rack(heap: Global, request: RackRequest) -> Result<Response, AllocError>
             request: Some(Request::Rack(request)),
         })
     } else {
-        let refusal = Refusal {
-            number: 1,
-            layer: Layer::Rack,
-            place: 0,
-        };
-        Ok(Response::only(text::refused(heap, refusal)?))
+        let refusal = Refusal::UnfitMemory;
+        Ok(Response::only(format!(in heap; "{refusal}")?))
     }
 }
 

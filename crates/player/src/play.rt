@@ -14,7 +14,7 @@ use crate::rows::{Row, gather, lay};
 use crate::session::Session;
 use field::{ByteField, Field, NibbleField, PrimeField};
 use layout::plan::Plan;
-use pool::kinds::Answer;
+use pool::kinds::Reply;
 use pool::pool::Pool;
 use rack::Rack;
 use script::command::FieldKind;
@@ -78,7 +78,7 @@ impl<L: Language> Session<'_, L> {
         ensures { IfOk result (λ s. Left R.valid R.meaning s.1 s.0 × Ends s.0 self.old self.new × Plays L.writes self.old (pooled (F.arithmetic field) by (laid_over by (R.meaning rack))) self.new (memory_by s.0 (bare (R.meaning s.1)))) }
     {
         let Row { calls, next: _ } = gather::<L>(self.heap, self.left)?;
-        let mut told = vec![in self.heap; Answer::Done; calls.len()]?;
+        let mut told = vec![in self.heap; Ok(Reply::Done); calls.len()]?;
         let pool = lay(by, field, rack, calls.as_slice(), told.as_mut_slice());
         self.print_row(told.as_slice())?;
         self.play_pooled(pool)

@@ -8,7 +8,6 @@ ghost use Rattle.std.specs.Option.{option_copied, option_map};
 
 use crate::request::{By, Request, Response, Start, Wanted};
 use crate::show::Shown;
-use crate::text;
 use field::{ByteField, Field, NibbleField, PrimeField};
 use layout::plan::Plan;
 use layout::refusal::Refusal;
@@ -75,7 +74,7 @@ pub fn ask_pool<R: Rack>(
             text: String::from_str(heap, "ok")?,
             request: Some(Request::Pool(Start { field, by })),
         }),
-        Err(refusal) => Ok(Response::only(text::refused(heap, refusal)?)),
+        Err(refusal) => Ok(Response::only(format!(in heap; "{refusal}")?)),
     }
 }
 

@@ -14,7 +14,7 @@ use crate::session::Session;
 use crate::show::answer_text;
 use field::Field;
 use layout::plan::Plan;
-use pool::kinds::{Answer, Call};
+use pool::kinds::{Answer, Call, Reply};
 use pool::pool::Pool;
 use pool::run::lay_and_replay;
 use rack::Rack;
@@ -55,7 +55,7 @@ pub fn replay<F: Field, R: Rack>(
     requires { Held F.arithmetic R.valid R.meaning pool.old }
     ensures { IfOk result (λ told. Held F.arithmetic R.valid R.meaning pool.new × (pool.new.plan ≡ pool.old.plan) × (pool.new.field ≡ pool.old.field) × law.Plays (F.arithmetic pool.old.field) (scheme_of pool.old.plan) (standing F.arithmetic R.valid R.meaning pool.old) calls.now told.items (standing F.arithmetic R.valid R.meaning pool.new)) }
 {
-    let mut told = vec![in heap; Answer::Done; calls.len()]?;
+    let mut told = vec![in heap; Ok(Reply::Done); calls.len()]?;
     pool.replay(calls, &mut told);
     Ok(told)
 }

@@ -1,14 +1,12 @@
 // The texts that are printed for a pool.
 ghost use Rattle.std.specs.Prelude.{◌≡◌, IfOk, Some, string_bytes};
 ghost use Rattle.layout.specs.Counts.{slots_of};
-ghost use Rattle.pool.specs.Book.{phase_number};
 ghost use Rattle.player.specs.Shows.{answer_text, carried_now, phase_text, out_text, slot_text, module_text, show_text};
 ghost use Rattle.std.specs.Fmt.{DisplaysOnOk};
 
-use crate::text::refused;
 use layout::plan::Plan;
-use pool::kinds::{Answer, Phase};
-use rack::Rack;
+use pool::kinds::{Answer, Phase, Reply};
+use rack::{Rack, symbol};
 use std::alloc::{AllocError, Global};
 use std::fmt;
 
@@ -17,22 +15,10 @@ pub fn answer_text(heap: Global, answer: Answer) -> Result<String, AllocError>
     ensures { IfOk result (λ s. string_bytes s ≡ answer_text answer) }
 {
     match answer {
-        Answer::Symbol(symbol) => format!(in heap; "ok {symbol}"),
-        Answer::Carried(data, parities) => format!(in heap; "ok {data} {parities}"),
-        Answer::Done => String::from_str(heap, "ok"),
-        Answer::Refused(refusal) => refused(heap, refusal),
-    }
-}
-
-// The number of a phase.
-fn phase_number(phase: Phase) -> u16
-    ensures { result ≡ phase_number phase }
-{
-    match phase {
-        Phase::Before => 0,
-        Phase::UnderWay => 1,
-        Phase::Voided => 2,
-        Phase::After => 3,
+        Ok(Reply::Symbol(symbol)) => format!(in heap; "ok {symbol}"),
+        Ok(Reply::Carried(data, parities)) => format!(in heap; "ok {data} {parities}"),
+        Ok(Reply::Done) => String::from_str(heap, "ok"),
+        Err(refusal) => format!(in heap; "{refusal}"),
     }
 }
 
@@ -68,14 +54,14 @@ impl<R: Rack> Shown<'_, R> {
     fn symbol_at(&self, module: u16, slot: u16, offset: u16) -> u16
         ensures { result ≡ (R.meaning self.now.rack.now).symbol «module» slot offset }
     {
-        self.rack.get(module, slot, offset).unwrap_or(0)
+        symbol(self.rack, module, slot, offset)
     }
 
     // The phase, and the stripes that are carried.
     fn write_head<W: fmt::Write>(&self, f: &mut fmt::Formatter<W>) -> fmt::Result
         ensures { DisplaysOnOk W.write_str_gives f.old result (Some (phase_text self.now.phase self.now.carried)) f.new }
     {
-        let number = phase_number(self.phase);
+        let number = u16::from(self.phase);
         let stripes = carried_now(self.phase, self.carried);
         write!(f, "phase {number}, carried {stripes}, out")
     }

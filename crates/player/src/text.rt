@@ -2,35 +2,13 @@
 ghost use Rattle.std.specs.Prelude.{◌≡◌, ◌<◌, ◌++◌, IfOk, Some, string_bytes, codes};
 ghost use Rattle.layout.specs.Labels.{label_of};
 ghost use Rattle.layout.specs.Placing.{rows_of, stripes_of, chunk_at, home_of};
-ghost use Rattle.player.specs.Texts.{hex_text, refused_text, layer_name, row_text, counts_text, map_text};
+ghost use Rattle.player.specs.Texts.{hex_text, row_text, counts_text, map_text};
 ghost use Rattle.std.specs.Fmt.{DisplaysOnOk};
 
 use layout::label::{LABEL_BYTES, Label};
 use layout::plan::Plan;
-use layout::refusal::{Layer, Refusal};
 use std::alloc::{AllocError, Global};
 use std::fmt;
-
-fn layer_name(layer: Layer) -> &'static str
-    ensures { result.now ≡ layer_name layer }
-{
-    match layer {
-        Layer::Rack => "rack",
-        Layer::Layout => "layout",
-        Layer::Pool => "pool",
-        Layer::Coding => "coding",
-    }
-}
-
-/// The text of a refusal.
-pub fn refused(heap: Global, refusal: Refusal) -> Result<String, AllocError>
-    ensures { IfOk result (λ s. string_bytes s ≡ refused_text refusal) }
-{
-    let number = refusal.number;
-    let layer = layer_name(refusal.layer);
-    let place = refusal.place;
-    format!(in heap; "refused {number} {layer} {place}")
-}
 
 // The chunk in a cell.
 fn chunk_in(plan: &Plan, row: u16, column: u16) -> u16

@@ -1,5 +1,5 @@
-use Rattle.std.proofs.Common.{◌≡◌, ◌+◌, ◌-◌, [], ◌∷◌, ◌++◌, length, get_or, drop, vec_items, codes, sym, ap, ◌∙◌, append-nil, add-one, arith, drop-cons}
-use Rattle.pool.specs.declared.kinds.Answer.TheVariants.{Symbol}
+use Rattle.std.proofs.Common.{◌≡◌, ◌+◌, ◌-◌, [], ◌∷◌, ◌++◌, length, get_or, drop, vec_items, codes, sym, ap, ◌∙◌, append-nil, add-one, arith, drop-cons, Ok}
+use Rattle.pool.specs.declared.kinds.Reply.TheVariants.{Symbol}
 use Rattle.player.specs.Shows.{answer_text}
 use Rattle.player.specs.Rows.{row_text}
 use Rattle.player.specs.Sessions.{kept, IsNextLine}
@@ -24,8 +24,8 @@ loop-answer-preserved g c =
           let x = inv.printed part rest many are in
           let y = line_less line (kept (lines c.in-Some.rest.now)) x.0 rest (length told - (i + 1)) (omega (arith, x.1, c.loop-answer-test.true)) (sym h.0 ∙ x.2) in
           let d = drop (i + 1) told in
-          let a = get_or told i (Symbol 0) in
-          let first : drop i told ≡ a ∷ d = drop-cons told i (Symbol 0) c.loop-answer-test.true ∙ ap (λ n. a ∷ drop n told) (sym (add-one i)) in (
+          let a = get_or told i (Ok (Symbol 0)) in
+          let first : drop i told ≡ a ∷ d = drop-cons told i (Ok (Symbol 0)) c.loop-answer-test.true ∙ ap (λ n. a ∷ drop n told) (sym (add-one i)) in (
             y.tail,
             omega (arith, y.fewer, c.loop-answer-test.true),
             ap (λ t. kept (lines t)) p.left ∙ y.lines_are,
