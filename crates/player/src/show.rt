@@ -8,7 +8,7 @@ ghost use Rattle.std.specs.Fmt.{DisplaysOnOk};
 use crate::text::refused;
 use layout::plan::Plan;
 use pool::kinds::{Answer, Phase};
-use rack::Rack;
+use rack::{Rack, symbol};
 use std::alloc::{AllocError, Global};
 use std::fmt;
 
@@ -68,7 +68,7 @@ impl<R: Rack> Shown<'_, R> {
     fn symbol_at(&self, module: u16, slot: u16, offset: u16) -> u16
         ensures { result ≡ (R.meaning self.now.rack.now).symbol «module» slot offset }
     {
-        self.rack.get(module, slot, offset).unwrap_or(0)
+        symbol(self.rack, module, slot, offset)
     }
 
     // The phase, and the stripes that are carried.
@@ -102,8 +102,8 @@ impl<R: Rack> Shown<'_, R> {
     {
         write!(f, "\nmodule {module} slot {slot}:")?;
         for offset in 0..self.plan.len {
-            let symbol = self.symbol_at(module, slot, offset);
-            write!(f, " {symbol}")?;
+            let shown = self.symbol_at(module, slot, offset);
+            write!(f, " {shown}")?;
         }
         Ok(())
     }
