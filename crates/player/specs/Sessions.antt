@@ -2,9 +2,12 @@
 use Rattle.std.specs.Prelude.{◌≡◌, ℕ, ◌<◌, ◌≤◌, cond, List, [], ◌∷◌, ◌++◌, length, true, IfSome, Some, None, Option, MatchOption}
 use Rattle.rack.specs.Laid.{blank, fair}
 use Rattle.script.specs.declared.command.Command.{Command}
+use Rattle.rack.specs.Meaning.{Meaning}
 use Rattle.player.specs.declared.request.RackRequest.{RackRequest}
+use Rattle.player.specs.declared.request.Request.{Request}
 use Rattle.player.specs.declared.session.Session.{Session}
 use Rattle.player.specs.Answers.{Memory, nothing, bare, State, state}
+use Rattle.player.specs.Holding.{memory_by, Left}
 use Rattle.player.specs.Transcripts.{lines, passed_over, Printed}
 
 -- the lines that are not passed over
@@ -48,3 +51,11 @@ next_memory (Some q) = bare (blank q.size)
 -- a rack that is asked for has its numbers in their bounds
 abbrev pub Makeable : Option RackRequest → Type 0
 Makeable o = IfSome o (λ q. fair q.size ≡ true)
+
+-- a part of a session is played from b to e, where its first line acts on m, and ends with no pool: with what is asked for
+abbrev pub PlaysOn : {L : Type 0} → (List ℕ → Command → Type 0) → Session L → Memory → Session L → Option RackRequest → Type 0
+PlaysOn writes b m e asked = Makeable asked × Ends asked b e × Plays writes b m e (next_memory asked)
+
+-- the same where it ends with a rack that is given back, and with what is asked for over it
+abbrev pub PlaysOver : {L R : Type 0} → (R → Type 0) → (R → Meaning) → (List ℕ → Command → Type 0) → Session L → Memory → Session L → Option Request × R → Type 0
+PlaysOver valid meaning writes b m e s = Left valid meaning s.1 s.0 × Ends s.0 b e × Plays writes b m e (memory_by s.0 (bare (meaning s.1)))

@@ -4,7 +4,7 @@ ghost use Rattle.pool.specs.Openings.{lay_refusal, fit_refusal, laid_over};
 ghost use Rattle.pool.specs.Pools.{Held};
 ghost use Rattle.player.specs.Answers.{bare, pooled};
 ghost use Rattle.player.specs.Holding.{Ready, alone, within, started, started_over, memory_by, Fits, Startable, Possible, Left};
-ghost use Rattle.player.specs.Sessions.{Plays, Ends, Makeable, next_memory};
+ghost use Rattle.player.specs.Sessions.{Plays, Ends, PlaysOn, PlaysOver};
 ghost use Rattle.std.specs.Option.{option_map};
 
 use crate::answer::{answer, answer_pooled};
@@ -49,7 +49,7 @@ impl<L: Language> Session<'_, L> {
         pool: Pool<F, R>,
     ) -> Result<(Option<Request>, R), AllocError>
         requires { Held F.arithmetic R.valid R.meaning pool }
-        ensures { IfOk result (λ s. Left R.valid R.meaning s.1 s.0 × Ends s.0 self.old self.new × Plays L.writes self.old (within F.arithmetic R.valid R.meaning pool) self.new (memory_by s.0 (bare (R.meaning s.1)))) }
+        ensures { IfOk result (PlaysOver R.valid R.meaning L.writes self.old (within F.arithmetic R.valid R.meaning pool) self.new) }
     {
         let mut pool = pool;
         loop {
@@ -75,7 +75,7 @@ impl<L: Language> Session<'_, L> {
     ) -> Result<(Option<Request>, R), AllocError>
         requires valid { R.valid rack }
         requires fits { lay_refusal by (F.arithmetic field).order (R.meaning rack) ≡ None }
-        ensures { IfOk result (λ s. Left R.valid R.meaning s.1 s.0 × Ends s.0 self.old self.new × Plays L.writes self.old (pooled (F.arithmetic field) by (laid_over by (R.meaning rack))) self.new (memory_by s.0 (bare (R.meaning s.1)))) }
+        ensures { IfOk result (PlaysOver R.valid R.meaning L.writes self.old (pooled (F.arithmetic field) by (laid_over by (R.meaning rack))) self.new) }
     {
         let Row { calls, next: _ } = gather::<L>(self.heap, self.left)?;
         let mut told = vec![in self.heap; Ok(Reply::Done); calls.len()]?;
@@ -93,7 +93,7 @@ impl<L: Language> Session<'_, L> {
     ) -> Result<(Option<Request>, R), AllocError>
         requires valid { R.valid rack }
         requires fits { Fits by (F.arithmetic field).order (R.meaning rack) }
-        ensures { IfOk result (λ s. Left R.valid R.meaning s.1 s.0 × Ends s.0 self.old self.new × Plays L.writes self.old (started_over (F.arithmetic field) by (R.meaning rack)) self.new (memory_by s.0 (bare (R.meaning s.1)))) }
+        ensures { IfOk result (PlaysOver R.valid R.meaning L.writes self.old (started_over (F.arithmetic field) by (R.meaning rack)) self.new) }
     {
         match by {
             By::Plan(plan) => self.play_laid(plan, field, rack),
@@ -109,7 +109,7 @@ impl<L: Language> Session<'_, L> {
     ) -> Result<(Option<Request>, R), AllocError>
         requires valid { R.valid rack }
         requires fits { Startable start (R.meaning rack) }
-        ensures { IfOk result (λ s. Left R.valid R.meaning s.1 s.0 × Ends s.0 self.old self.new × Plays L.writes self.old (started start (R.meaning rack)) self.new (memory_by s.0 (bare (R.meaning s.1)))) }
+        ensures { IfOk result (PlaysOver R.valid R.meaning L.writes self.old (started start (R.meaning rack)) self.new) }
     {
         match start.field {
             FieldKind::Byte => self.play_started(start.by, ByteField, rack),
@@ -127,7 +127,7 @@ impl<L: Language> Session<'_, L> {
     ) -> Result<Option<RackRequest>, AllocError>
         requires valid { R.valid rack }
         requires fits { Startable start (R.meaning rack) }
-        ensures { IfOk result (λ asked. Makeable asked × Ends asked self.old self.new × Plays L.writes self.old (started start (R.meaning rack)) self.new (next_memory asked)) }
+        ensures { IfOk result (PlaysOn L.writes self.old (started start (R.meaning rack)) self.new) }
     {
         let mut start = start;
         let mut rack = rack;
@@ -152,7 +152,7 @@ impl<L: Language> Session<'_, L> {
         rack: Option<R>,
     ) -> Result<Option<RackRequest>, AllocError>
         requires { Ready R.valid rack }
-        ensures { IfOk result (λ asked. Makeable asked × Ends asked self.old self.new × Plays L.writes self.old (alone (option_map R.meaning rack)) self.new (next_memory asked)) }
+        ensures { IfOk result (PlaysOn L.writes self.old (alone (option_map R.meaning rack)) self.new) }
     {
         let mut rack = rack;
         let Some(asked) = self.play_alone(&mut rack)? else {

@@ -88,8 +88,8 @@ impl<R: Rack> Shown<'_, R> {
     {
         write!(f, "\nmodule {module} slot {slot}:")?;
         for offset in 0..self.plan.len {
-            let symbol = self.symbol_at(module, slot, offset);
-            write!(f, " {symbol}")?;
+            let shown = self.symbol_at(module, slot, offset);
+            write!(f, " {shown}")?;
         }
         Ok(())
     }

@@ -2,7 +2,7 @@
 ghost use Rattle.std.specs.Prelude.{◌≡◌, ℕ, ◌<◌, true, length, IfOk, None, slice_index};
 ghost use Rattle.rack.specs.Laid.{blank, fair};
 ghost use Rattle.player.specs.Answers.{state, nothing, bare};
-ghost use Rattle.player.specs.Sessions.{Plays, Ends, Makeable, next_memory};
+ghost use Rattle.player.specs.Sessions.{PlaysOn};
 ghost use Rattle.player.specs.Transcripts.{lines, Printed};
 
 use crate::request::RackRequest;
@@ -23,7 +23,7 @@ impl<L: Language> Session<'_, L> {
     // Makes the rack that is asked for, over memory of its own, and plays the lines for it.
     fn play_on(&mut self, request: RackRequest) -> Result<Option<RackRequest>, AllocError>
         requires { fair request.size ≡ true }
-        ensures { IfOk result (λ asked. Makeable asked × Ends asked self.old self.new × Plays L.writes self.old (bare (blank request.size)) self.new (next_memory asked)) }
+        ensures { IfOk result (PlaysOn L.writes self.old (bare (blank request.size)) self.new) }
     {
         let RackRequest { kind, size } = request;
         let slots_in_all = usize::from(size.modules) * usize::from(size.slots);
