@@ -90,6 +90,7 @@ pub struct Group {
 
 impl Group {
     /// The group of a kind with a number; none where the plan has no such group.
+    // The public calls take plan, kind and number, which a `GroupNumber` holds inside: a caller would make one at each call.
     pub fn of(plan: &Plan, kind: Kind, index: u16) -> Option<Group>
         ensures { MatchOption result (groups (scheme_of plan.now) kind ≤ index) (λ g. (index < groups (scheme_of plan.now) kind) × Grouped (scheme_of plan.now) kind index g) }
     {

@@ -9,6 +9,8 @@ use std::array;
 
 impl Group {
     /// The coefficient of chunk `e` in parity `k`; zero where the group has no such chunk.
+    // Like the other functions of this crate at one index of 14, it asks that the index is below: an index type that says so would be
+    // made in each closure of `from_fn` that calls one, and be no plainer.
     fn weight<F: Field>(&self, field: &F, k: u8, e: usize) -> u16
         requires { e < 14 }
         ensures { result ≡ (if nat_lt e self.now.size then coefficient (F.arithmetic field.now) k (x_at self.now e) else 0) }

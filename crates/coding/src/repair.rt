@@ -5,7 +5,7 @@ use crate::group::Group;
 
 /// How the missing chunks of a group follow from the first pieces that are left: all its other chunks, and as many of its
 /// parities as chunks are missing.
-// Arrays of four side by side, since the equations take plain arrays by value.
+// Arrays of four side by side with a count, since memory is fixed and the equations take plain arrays by value.
 #[derive(Clone, Copy)]
 pub struct Repair {
     /// the group, with the places of its pieces

@@ -193,6 +193,7 @@ impl Widths {
         }
     }
 
+    // A cell as a struct with `IsCell` as a ghost field would be made at the calls of these three and taken apart in each: no plainer.
     #[tactic(auto, using(crate::proofs::Cells::on_the_way), unfolding(crate::specs::Placing::wide_chunk))]
     fn wide_chunk(self, i: u16, c: u16) -> u16
         requires cell { IsCell self.d self.d2 i c }

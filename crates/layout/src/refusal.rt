@@ -52,6 +52,7 @@ pub enum Refusal {
 
 impl Refusal {
     /// The number of the rule.
+    // By hand: C and the texts take this number, and a variant with a place has no discriminant to read.
     pub fn number(&self) -> u8
         ensures { result ≡ number self.now }
     {
@@ -75,6 +76,7 @@ impl Refusal {
     }
 
     /// The layer of the rule.
+    // By hand: a table of the rules, four layers for fifteen variants, which no derive gives.
     pub fn layer(&self) -> Layer
         ensures { result ≡ layer self.now }
     {

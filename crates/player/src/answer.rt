@@ -71,6 +71,8 @@ fn ask_rack(heap: Global, request: RackRequest) -> Result<Response, AllocError>
     }
 }
 
+// The functions that answer take the heap, the plan and the rack side by side: one is copied, one may be altered, and one is lent or
+// altered by turns, so a struct of the three would be made anew for each line, and be no plainer.
 // The answer to a command that is answered alike whether a pool has the rack or none has.
 fn respond_alike<R: Rack>(
     heap: Global,

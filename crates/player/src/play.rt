@@ -67,6 +67,7 @@ impl<L: Language> Session<'_, L> {
     }
 
     // Lays a pool with the calls that follow in a row, and plays the lines after them.
+    // Each function here that takes a rack asks that it is valid: the trait's calls promise nothing of another.
     fn play_laid<F: Field + Drop, R: Rack + Drop>(
         &mut self,
         by: Plan,
@@ -101,7 +102,7 @@ impl<L: Language> Session<'_, L> {
         }
     }
 
-    // The same over the field that is named.
+    // The same over the field that is named. Each arm has a field of another type, so no closure stands for all.
     fn play_pool<R: Rack + Drop>(
         &mut self,
         start: Start,

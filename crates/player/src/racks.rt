@@ -17,6 +17,7 @@ pub enum Outcome {
     Done(bool),
     /// whether the module is fitted
     Fitted(bool),
+    /// there is no rack: a line says so as it says each other outcome, so an Option around them would only be taken apart again
     NoRack,
 }
 
@@ -36,6 +37,7 @@ fn on_rack<R: Rack>(rack: &mut R, call: RackCall) -> Outcome
 }
 
 /// A call on the rack in use, if there is one.
+// By hand: `map_or` would need clauses on its closure, and be no plainer.
 pub fn on_rack_in_use<R: Rack>(rack: &mut Option<R>, call: RackCall) -> Outcome
     ensures { Ready R.valid rack.old → (outcome_text result ≡ rack_text (alone (option_map R.meaning rack.old)) call) × (alone (option_map R.meaning rack.new) ≡ rack_after (alone (option_map R.meaning rack.old)) call) × Ready R.valid rack.new }
 {

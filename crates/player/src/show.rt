@@ -11,6 +11,7 @@ use std::alloc::{AllocError, Global};
 use std::fmt;
 
 /// The text of an answer.
+// No Display: an answer is a Result, a type of the library.
 pub fn answer_text(heap: Global, answer: Answer) -> Result<String, AllocError>
     ensures { IfOk result (λ s. string_bytes s ≡ answer_text answer) }
 {
@@ -22,7 +23,7 @@ pub fn answer_text(heap: Global, answer: Answer) -> Result<String, AllocError>
     }
 }
 
-// The stripes that are carried: none outside a changeover.
+// The stripes that are carried: none outside a changeover. By hand: it takes the count too, so this is no conversion of a phase.
 fn carried_now(phase: Phase, carried: u16) -> u16
     ensures { result ≡ carried_now phase carried }
 {

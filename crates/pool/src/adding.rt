@@ -15,7 +15,7 @@ pub(crate) struct Parities {
     pub(crate) slot: u16,
     /// how many there are
     pub(crate) count: u16,
-    /// the symbols of those that were fetched before
+    /// the symbols of those that were fetched before, and none after them: an array, since memory is fixed
     pub(crate) fetched: [Option<u16>; 4],
 }
 

@@ -110,7 +110,7 @@ impl<'a, F: Field> Carrying<'a, F> {
         ensures { Grows R.valid R.meaning (F.arithmetic self.now.field.now) (scheme_of self.now.load.plan) rack.old rack.new offset (to_row row shares) }
     {
         let slot = self.load.base + row;
-        // k is a module as well as an index
+        // k numbers a module and a share: over an iterator of the shares it would be counted beside it, and be no plainer
         for k in 0..self.load.plan.r2 {
             let module = self.load.plan.d2 + k;
             add_at(rack, self.field, module, slot, offset, shares[k as usize]);
@@ -118,6 +118,8 @@ impl<'a, F: Field> Carrying<'a, F> {
     }
 
     /// What chunk `e` of the stripe adds at an offset to each parity of its row. The chunk is fetched once.
+    // The rack, the chunk and the offset go from call to call to this one: a struct of the three would lend the rack for as long as it
+    // lives, and the gains beside it go in and out, so it would be no plainer.
     fn shares_at<R: Rack>(&self, rack: &R, e: usize, offset: u16) -> [u16; 4]
         requires { e < self.now.load.group.size }
         ensures { R.valid rack.now → Shares (F.arithmetic self.now.field.now) self.now.load e (chunks_at (scheme_of self.now.load.plan) (R.meaning rack.now) offset (chunk_in (scheme_of self.now.load.plan) self.now.load.group.index e)) result }
@@ -215,7 +217,7 @@ impl<'a, F: Field> Carrying<'a, F> {
         ensures { Grows R.valid R.meaning (F.arithmetic self.now.field.now) (scheme_of self.now.load.plan) rack.old rack.new offset (stripe_gain (F.arithmetic self.now.field.now) (scheme_of self.now.load.plan) self.now.load.group.index (R.meaning rack.old) offset) }
     {
         let gains = self.gains_at(rack, offset);
-        // row is the number of a row as well as an index
+        // row numbers a row, a flag and gains: over an iterator of one of them it would be counted beside it, and be no plainer
         for row in 0..self.load.rows {
             if self.load.touched[row as usize] {
                 self.add_to_row(rack, row, offset, gains[row as usize]);

@@ -18,6 +18,7 @@ pub enum Phase {
     After,
 }
 
+// These are tables of the rules, what a call makes of a phase, and no conversions: by hand, one line for each phase.
 impl Phase {
     /// The phase that a label says.
     pub(crate) fn opened(after: bool) -> Phase
@@ -48,6 +49,7 @@ impl Phase {
     }
 
     /// The kind of the groups whose parities are settled.
+    // `dropped` has the same arms, but answers a phase: one function for both would ask which is wanted, and be no plainer.
     pub(crate) fn settled(self) -> Kind
         ensures { result ≡ settled self }
     {

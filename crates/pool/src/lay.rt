@@ -38,6 +38,8 @@ fn check_fit<F: Field, R: Rack>(plan: &Plan, field: &F, rack: &R) -> Result<(), 
     Ok(())
 }
 
+// A plan, a field and a rack are all that a pool is made of, so each of these takes the three; a struct of them would be a pool that is
+// not laid. A rack that is valid is asked for of callers, since the trait's calls promise nothing of another.
 impl<F: Field, R: Rack> Pool<F, R> {
     /// Says whether a pool can be laid: the field and the rack fit the plan, and every module of the plan is fitted.
     pub fn check_lay(plan: &Plan, field: &F, rack: &R) -> Result<(), Refusal>

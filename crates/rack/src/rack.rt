@@ -3,6 +3,8 @@ ghost use Rattle.std.specs.Prelude.{◌≡◌};
 ghost use Rattle.rack.specs.Meaning.{Meaning, Bounded, symbol_at, pulls, Puts, Pulls, Fits};
 
 /// A memory of modules, slots and offsets: at each place of a module that is fitted lies a symbol below the order.
+// `put`, `pull` and `fit` answer a bool, since the rules of a rack give no reason where nothing is done; and calls take plain numbers
+// for a place, since a place as a struct would be made at each call and taken apart in it.
 pub trait Rack {
     // What the rack keeps true of itself, from its making on.
     ghost valid: { Self → Type 0 };

@@ -89,6 +89,7 @@ impl Rack for TurningRack<'_> {
         self.shape.size.length
     }
 
+    // This and `pull` read as those of a flat rack: each is one call of the shape that both have, so there is no more to share.
     fn ask(&self, module: u16) -> bool {
         self.shape.fitted(module)
     }

@@ -6,6 +6,7 @@ use script::language::WithoutPools;
 use std::io;
 use std::io::{Read, Write};
 
+// The program `sample` is the same with all commands: what both do is in `transcript`, and a program needs a main of its own.
 fn main(rt: HostRuntime) -> io::Result<()> {
     let heap = rt.alloc();
     let mut input = Vec::new(heap);

@@ -33,6 +33,7 @@ impl Command {
     ghost use Rattle.script.specs.Script.{of_pools};
 
     /// Whether this is a command of pools, and none of plans, labels and racks.
+    // By hand, all variants named, so that a new one has to be placed.
     pub fn is_of_pools(&self) -> bool
         ensures { result ≡ of_pools self.now }
     {

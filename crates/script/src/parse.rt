@@ -8,6 +8,7 @@ use pool::kinds::Call;
 use rack::Size;
 
 // A value that one word spells.
+// The tables of words are by hand: no derive gives them, and a Display would write them where a line is compared with them.
 trait Spelled: Copy + 'static {
     ghost use Rattle.std.specs.List.{Contains};
 
