@@ -1,6 +1,6 @@
 //! The parities of a group.
 ghost use Rattle.std.specs.Prelude.{◌≡◌, ◌<◌, if◌then◌else◌, nat_lt, slice_index};
-ghost use Rattle.coding.specs.Pieces.{ParityBy, Weights, x_at};
+ghost use Rattle.coding.specs.Pieces.{ParityBy, ParityOf, Weights, x_at};
 ghost use Rattle.field.specs.Sums.{coefficient, total};
 
 use crate::group::Group;
@@ -27,6 +27,14 @@ impl Group {
         ensures { Weights (F.arithmetic field.now) self.now k result }
     {
         array::from_fn(|e| self.weight(field, k, e))
+    }
+
+    /// Parity `k`, where the chunks, in their order, have these symbols.
+    pub fn parity<F: Field>(&self, field: &F, k: u8, chunks: [u16; 14]) -> u16
+        ensures is { ParityOf (F.arithmetic field.now) self.now k chunks result }
+        ensures below { result < (F.arithmetic field.now).order }
+    {
+        parity_of(field, self.weights(field, k), chunks)
     }
 }
 
