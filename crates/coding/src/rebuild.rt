@@ -11,7 +11,7 @@ use rack::rack::Rack;
 use rack::symbol;
 use std::array;
 
-/// The array `start`, with the first `n` of the values in their places.
+/// The array `start`, with the first `n` of the values in their places. A place that the array does not have is passed over.
 fn scatter<T: Copy + Drop, const N: usize>(
     start: [T; N],
     places: [u8; 4],
@@ -19,13 +19,15 @@ fn scatter<T: Copy + Drop, const N: usize>(
     n: usize,
 ) -> [T; N]
     requires few { n ≤ 4 }
-    requires inside { (j : ℕ) → j < 4 → slice_index places j < N }
     ensures { (d : T) → result ≡ scattered start places (λ j. slice_index_or values j d) n }
 {
     let mut all = start;
     // by index: a `zip` would take the first `n` of both arrays, and be no plainer
     for j in 0..n {
-        all[usize::from(places[j])] = values[j];
+        let place = usize::from(places[j]);
+        if place < N {
+            all[place] = values[j];
+        }
     }
     all
 }

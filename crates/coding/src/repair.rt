@@ -28,7 +28,6 @@ pub struct Repair {
     pub inverse: [[u16; 4]; 4],
     ghost few: { count ≤ 4 },
     ghost inside: { (j : ℕ) → j < 4 → slice_index missing j < 14 },
-    ghost numbers: { (j : ℕ) → j < 4 → slice_index parities j < 4 },
 }
 
 /// The symbols of a group's pieces at one offset.
