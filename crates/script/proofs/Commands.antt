@@ -1,5 +1,6 @@
 -- What stands after the name of a command. Assumes nothing.
-use Rattle.std.proofs.Common.{◌≡◌, ℕ, zero, suc, ◌<◌, Bool, ◌⊎◌, List, [], ◌∷◌, length, get_or, Option, None, sym, refl, ◌∙◌, subst, inl, inr, not-suc-le-zero, le_of_suc-le-suc}
+use Rattle.std.proofs.Common.{◌≡◌, ℕ, ◌<◌, Bool, ◌⊎◌, List, [], ◌∷◌, length, Option, None, MatchOption, Some, None, sym, refl, zero-le, subst, inl, inr}
+use Rattle.std.specs.List.{AllWithin, HoldsAt, Contains}
 use Rattle.script.specs.declared.command.Command.{Command}
 use Rattle.script.specs.declared.command.Command.TheVariants.{Plan, Map, Label, Rack, OnRack, Lay, Open, OnPool, Show, PoolLabel}
 use Rattle.script.specs.declared.command.FieldKind.{FieldKind}
@@ -72,8 +73,8 @@ pub no_numbers : (name called : Name) (n : ℕ) (text : List ℕ) (r : Option Co
 no_numbers name called n text r is same none e =
     subst (λ m. Takes m text r) (sym same) (subst (Takes name text) (sym e) (no_command name text (λ g. let k = is g in none k.0 k.1 k.2)))
 
--- an item of a list is the same whatever stands in for none
-pub same_item : {A : Type 0} (xs : List A) (k : ℕ) (y x : A) → k < length xs → y ≡ get_or xs k y → get_or xs k x ≡ x → y ≡ x
-same_item [] k y x h e f = absurd (not-suc-le-zero h)
-same_item (z ∷ xs) zero y x h e f = e ∙ f
-same_item (z ∷ xs) (suc k) y x h e f = same_item xs k y x (le_of_suc-le-suc h) e f
+-- what was looked for in a list of all values
+pub found_among : {A : Type 0} (all : List A) (r : Option A) (P : A → Type 0) → ((x : A) → Contains all x) →
+    MatchOption r (AllWithin (λ y. P y → ⊥) all 0 (length all)) (λ x. P x × (i : ℕ) × (i < length all) × HoldsAt (λ y. y ≡ x) all i × AllWithin (λ y. P y → ⊥) all 0 i) → MatchOption r ((x : A) → P x → ⊥) P
+found_among all (Some y) P has h = h.0
+found_among all None P has h = λ x p. let at = has x in h at.0 x zero-le at.1 (subst P (sym at.2) p)

@@ -27,12 +27,10 @@ trait Spelled: Copy + 'static {
 fn spelled_by<T: Spelled + 'static>(word: &[u8]) -> Option<T>
     ensures { MatchOption result ((x : T) → word.now ≢ T.spelled x) (λ x. word.now ≡ T.spelled x) }
 {
-    for value in T::all() {
-        if word == value.spelling() {
-            return Some(*value);
-        }
-    }
-    None
+    T::all()
+        .iter()
+        .copied()
+        .find(|value| value.spelling() == word)
 }
 
 impl Spelled for Name {

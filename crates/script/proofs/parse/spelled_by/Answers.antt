@@ -1,20 +1,12 @@
-use Rattle.std.proofs.Common.{sym, ap, ◌∙◌, arith, below_more}
-use Rattle.std.proofs.lemmas.Slice.Eq.{slice_eq-Decides}
-use Rattle.std.proofs.lemmas.Bool.Decides.{not_from_Decides, Decides-eqb}
-use Rattle.script.proofs.Commands.{same_item}
+use Rattle.std.proofs.Common.{◌≡◌, rules, tests}
+use Rattle.std.proofs.lemmas.Iterator.{YieldsList-from_slice, first_from_find}
+use Rattle.std.proofs.lemmas.Iterator.Consumers.{YieldsList-from_copied}
+use Rattle.script.proofs.Commands.{found_among}
 use Rattle.script.proofs.parse.spelled_by.Goals as goal
 
-pub loop-value-preserved : goal.loop-value-preserved
-loop-value-preserved g c x =
-    below_more _ _ (c.loop-value.invariant x)
-    (λ at e.
-    let same = same_item c.all-value-items.result.now c.loop-value.value-index c.value-item.result x c.loop-value-test.true c.value-item.is at in
-    not_from_Decides _ (slice_eq-Decides Decides-eqb _ _ _ c.eq.ensures) c.if-eq.false (e ∙ sym (ap g.T.Spelled.spelled same) ∙ sym c.spelling.ensures))
-
-pub returns-then-eq : goal.returns-then-eq
-returns-then-eq g c = (slice_eq-Decides Decides-eqb _ _ _ c.eq.ensures).0 c.if-eq.true ∙ c.spelling.ensures
-
 pub returns : goal.returns
-returns g c x e =
-    let at = c.all-value-items.ensures x in
-    c.loop-value.invariant x at.0 (omega (arith, at.1, c.loop-value-test.false)) at.2 e
+returns g c =
+    let word = c.args.word.now in
+    let spelled = g.T.Spelled.spelled in
+    found_among c.all.result.now c.find.result (λ y. word ≡ spelled y) c.all.ensures
+    (first_from_find _ _ c.find.result (λ y. word ≡ spelled y) (λ y. word ≡ spelled y → ⊥) c.find.ensures.ran (YieldsList-from_copied (YieldsList-from_slice c.all.result.now (cc))) (λ x q k. search (rules, tests)) (λ x q k. search (rules, tests)))
