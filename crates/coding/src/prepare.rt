@@ -95,7 +95,7 @@ impl Group {
 }
 
 /// The places of the first four flags that are set, and how many are set in all.
-// An array with a count, here and in what is worked out of it: memory is fixed, with no heap.
+// An array with a count, here and in the functions that take one: memory is fixed, with no heap.
 fn positions(xs: &[bool]) -> ([u8; 4], usize)
     requires some { 0 < length xs.now }
     requires few { length xs.now ≤ 14 }

@@ -117,6 +117,7 @@ impl<M: Modulus> Field for M {
     /// The power 2 ^ w - 2 of `a`, where w is the degree, which is the product of its powers 2, 4, 8 and so on, w - 1 of them.
     fn inv(&self, a: u16) -> u16 {
         let a = read(self.order(), a);
+        // `multiply::<M>` alone, a function that is generic, is not covered where an `Fn` is wanted.
         times_powers(|x, y| multiply::<M>(x, y), M::DEGREE - 1, a, 1)
     }
 }

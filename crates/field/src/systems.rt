@@ -8,7 +8,7 @@ use crate::posed::{all_codes, is_posed};
 use crate::{Field, coefficient};
 use std::array;
 
-// Both public functions take plain arrays by value, the parities and chunks of which the first `n` count: memory is fixed, with no heap.
+// Both public functions take plain arrays by value, with the number `n` that is used of each: memory is fixed, with no heap.
 /// The one solution of the `n` equations that the sum over the chunks x of coefficient(k, x) times the unknown of x is the side of the parity k.
 /// There is none to give where the parities and chunks give no system, or a side is no code.
 pub fn solve<F: Field>(
@@ -33,7 +33,7 @@ pub fn invert<F: Field>(field: &F, n: usize, ks: [u8; 4], xs: [u8; 4]) -> Option
     Some(system.inverse())
 }
 
-// Two arrays with a count beside them: memory is fixed, with no heap, and any parity stands with any chunk, so they are no pairs.
+// Two arrays with a count: memory is fixed, with no heap, and each parity stands with every chunk, so they are no pairs.
 /// The equations of the first `n` of the parities `ks`, whose unknowns are the symbols of the first `n` of the chunks `xs`.
 #[derive(Drop)]
 struct System<'a, F: Field> {

@@ -1,4 +1,5 @@
-// What the calls for C answer: plain numbers and byte buffers, of the six numbers of a plan, as C has them. The crate layout_c exports them.
+// What the calls for C answer. They take the six numbers of a plan and byte buffers, and answer plain numbers, as C has them.
+// The crate layout_c exports them.
 ghost use Rattle.std.specs.Prelude.{◌≡◌};
 ghost use Rattle.layout.specs.Exported.{number_of, place_number, counts_number};
 ghost use Rattle.layout.specs.Labels.{label_refusal};

@@ -1,5 +1,5 @@
 // Making a plan, and asking it where its pieces lie.
-ghost use Rattle.std.specs.Prelude.{◌≡◌, ◌≤◌, true, MatchResult};
+ghost use Rattle.std.specs.Prelude.{◌≡◌, ◌≤◌, true, MatchResult, ◌+◌};
 ghost use Rattle.layout.specs.Counts.{data_read, parities_read, modules_of, slots_of};
 ghost use Rattle.layout.specs.Places.{CellOf, HomeOf, ChunkIn, ChunkPlace, ParityPlace};
 ghost use Rattle.layout.specs.Placement.{placement};
@@ -13,7 +13,7 @@ use crate::numbers::Widths;
 use crate::plan::{Cell, Place, Plan};
 use crate::refusal::Refusal;
 
-// Refuses a number of a plan that is out of its range; place says which of its numbers it is.
+// Refuses a number of a plan that is out of its range; `place` says which number, counted from 1: d, r, d', r', L.
 fn check_range(low: u16, high: u16, n: u16, place: u16) -> Result<(), Refusal>
     ensures { MatchResult result (λ _. Within low high n) (λ e. (outside low high n ≡ true) × (e ≡ OutOfRange place)) }
 {
@@ -129,14 +129,24 @@ impl Plan {
         })
     }
 
+    // The module and slot of parity k of group i, one of n groups with r parities each, whose first slot is `base`.
+    fn parity_place(&self, base: u16, n: u16, r: u16, i: u16, k: u16) -> Option<Place>
+        requires few { r ≤ 4 }
+        requires small { base + n ≤ 1000 }
+        ensures { ParityPlace self.now.d2 base n r i k result }
+    {
+        (i < n && k < r).then(|| Place {
+            module: self.d2 + k,
+            slot: base + i,
+        })
+    }
+
     /// The module and slot of a parity of a stripe.
+    #[tactic(auto, using(crate::proofs::OfPlan::stripes_le))]
     pub fn stripe_parity_place(&self, stripe: u16, parity: u16) -> Option<Place>
         ensures { ParityPlace self.now.d2 0 (stripes_of self.now.d self.now.d2) self.now.r stripe parity result }
     {
-        (stripe < self.stripes() && parity < self.r).then(|| Place {
-            module: self.d2 + parity,
-            slot: stripe,
-        })
+        self.parity_place(0, self.stripes(), self.r, stripe, parity)
     }
 
     /// The module and slot of a parity of a row.
@@ -144,10 +154,7 @@ impl Plan {
     pub fn row_parity_place(&self, row: u16, parity: u16) -> Option<Place>
         ensures { ParityPlace self.now.d2 (stripes_of self.now.d self.now.d2) (rows_of self.now.d self.now.d2) self.now.r2 row parity result }
     {
-        (row < self.rows() && parity < self.r2).then(|| Place {
-            module: self.d2 + parity,
-            slot: self.stripes() + row,
-        })
+        self.parity_place(self.stripes(), self.rows(), self.r2, row, parity)
     }
 
     /// What a changeover reads in all: data chunks, and parity chunks.

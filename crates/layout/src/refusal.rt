@@ -15,6 +15,7 @@ pub enum Layer {
 
 /// A refusal: the rule that a call breaks, one variant for each rule, with its place where the rule names one.
 /// One type serves all libraries. A refused call alters nothing.
+// A place is a plain number, since the rules give it as one, and it is printed and handed to C as one.
 #[derive(Clone, Copy, PartialEq, Eq, Debug)]
 pub enum Refusal {
     /// 1: memory cannot serve as a rack of these numbers
@@ -99,6 +100,7 @@ impl Refusal {
     }
 
     /// The place that the rule names, else 0.
+    // By hand, like the number and the layer.
     pub fn place(&self) -> u16
         ensures { result ≡ place self.now }
     {

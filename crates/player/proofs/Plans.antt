@@ -1,5 +1,5 @@
 -- What lines answer that set a plan, or ask for a rack or a pool. Assumes nothing.
-use Rattle.std.proofs.Common.{◌≡◌, ℕ, List, Some, None, Ok, Err, codes, Option, Result, sym, refl, ap, ◌∙◌, subst, MatchOption}
+use Rattle.std.proofs.Common.{◌≡◌, ℕ, List, Some, None, Ok, Err, codes, IfOk, Option, Result, sym, refl, ap, ◌∙◌, subst, MatchOption}
 use Rattle.layout.specs.declared.label.Label as layout-label
 use Rattle.layout.specs.declared.plan.Plan as layout-plan
 use Rattle.layout.specs.declared.refusal.Refusal.{Refusal}
@@ -138,3 +138,8 @@ alike (Open f bytes) a b x y = tt
 alike (OnPool c) a b x y = absurd (b c refl)
 alike Show a b x y = absurd (x refl)
 alike PoolLabel a b x y = absurd (y refl)
+
+-- what follows of a value, where there is one
+pub on_ok : {A E : Type 0} {P Q : A → Type 0} (r : Result A E) → ((a : A) → P a → Q a) → IfOk r P → IfOk r Q
+on_ok (Ok a) f h = f a h
+on_ok (Err e) f h = h

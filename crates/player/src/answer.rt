@@ -71,8 +71,9 @@ fn ask_rack(heap: Global, request: RackRequest) -> Result<Response, AllocError>
     }
 }
 
-// The functions that answer take the heap, the plan and the rack side by side: one is copied, one may be altered, and one is lent or
-// altered by turns, so a struct of the three would be made anew for each line, and be no plainer.
+// The functions that answer take the heap, the plan and the rack side by side: the rack is lent to be altered, to be looked at, or within
+// a pool, so a struct of the three would be another in each, and made anew for each line.
+
 // The answer to a command that is answered alike whether a pool has the rack or none has.
 fn respond_alike<R: Rack>(
     heap: Global,
@@ -90,9 +91,9 @@ fn respond_alike<R: Rack>(
         }
         Command::Map => Ok(Response::only(show_plan(heap, plan)?)),
         Command::Label(after) => Ok(Response::only(show_label(heap, *plan, after)?)),
-        Command::Rack(kind, size) => Ok(ask_rack(heap, RackRequest { kind, size })?),
-        Command::Lay(field) => Ok(pools::ask_lay(heap, *plan, rack, field)?),
-        Command::Open(field, bytes) => Ok(pools::ask_pool(heap, field, Wanted::Open(bytes), rack)?),
+        Command::Rack(kind, size) => ask_rack(heap, RackRequest { kind, size }),
+        Command::Lay(field) => pools::ask_lay(heap, *plan, rack, field),
+        Command::Open(field, bytes) => pools::ask_pool(heap, field, Wanted::Open(bytes), rack),
         Command::OnRack(_) | Command::OnPool(_) | Command::Show | Command::PoolLabel =>
             unreachable!(),
     }
@@ -112,8 +113,8 @@ fn respond<R: Rack>(
             let outcome = racks::on_rack_in_use(rack, call);
             Ok(Response::only(format!(in heap; "{outcome}")?))
         }
-        Command::OnPool(_) | Command::Show | Command::PoolLabel => Ok(pools::say(heap, "no pool")?),
-        _ => Ok(respond_alike(heap, plan, rack.as_ref(), command)?),
+        Command::OnPool(_) | Command::Show | Command::PoolLabel => pools::say(heap, "no pool"),
+        _ => respond_alike(heap, plan, rack.as_ref(), command),
     }
 }
 
@@ -127,8 +128,8 @@ pub fn answer<R: Rack>(
     ensures { Ready R.valid rack.old → IfOk result (λ a. Replies (state plan.old (alone (option_map R.meaning rack.old))) command (state plan.new (memory_by a.request (alone (option_map R.meaning rack.new)))) (string_bytes a.text) × Ready R.valid rack.new × Possible a.request (option_map R.meaning rack.new)) }
 {
     match command {
-        Some(command) => Ok(respond(heap, plan, rack, command)?),
-        None => Ok(pools::say(heap, "not understood")?),
+        Some(command) => respond(heap, plan, rack, command),
+        None => pools::say(heap, "not understood"),
     }
 }
 
@@ -144,11 +145,11 @@ fn respond_pooled<F: Field, R: Rack>(
     ensures { IfOk result (λ a. Responds (state plan.old (within F.arithmetic R.valid R.meaning pool.now)) command (state plan.new (memory_by a.request (within F.arithmetic R.valid R.meaning pool.now))) (string_bytes a.text) × Possible a.request (Some (R.meaning pool.now.rack))) }
 {
     match command {
-        Command::OnRack(_) => Ok(pools::say(heap, "no rack")?),
+        Command::OnRack(_) => pools::say(heap, "no rack"),
         Command::OnPool(_) => unreachable!(),
         Command::Show => Ok(Response::only(pools::show_pool(heap, pool)?)),
         Command::PoolLabel => Ok(Response::only(text::label(heap, pool.label())?)),
-        _ => Ok(respond_alike(heap, plan, Some(pool.rack()), command)?),
+        _ => respond_alike(heap, plan, Some(pool.rack()), command),
     }
 }
 
@@ -164,7 +165,7 @@ pub fn answer_pooled<F: Field, R: Rack>(
     ensures { IfOk result (λ a. Replies (state plan.old (within F.arithmetic R.valid R.meaning pool.now)) command (state plan.new (memory_by a.request (within F.arithmetic R.valid R.meaning pool.now))) (string_bytes a.text) × Possible a.request (Some (R.meaning pool.now.rack))) }
 {
     match command {
-        Some(command) => Ok(respond_pooled(heap, plan, pool, command)?),
-        None => Ok(pools::say(heap, "not understood")?),
+        Some(command) => respond_pooled(heap, plan, pool, command),
+        None => pools::say(heap, "not understood"),
     }
 }

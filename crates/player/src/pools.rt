@@ -17,7 +17,7 @@ use script::command::FieldKind;
 use std::alloc::{AllocError, Global};
 
 // What starts the pool that is wanted, if it can be had over a field and a rack.
-// The next two take the field by its name and the rack where there is one: the three parameters are of other types in each.
+// Each of the next two takes the field by its name; the last takes a rack that may be missing.
 fn check<F: Field, R: Rack>(field: &F, wanted: Wanted, rack: &R) -> Result<By, Refusal>
     ensures why { R.valid rack.now → why_not result ≡ wanted_refusal wanted (F.arithmetic field.now).order (R.meaning rack.now) }
     ensures starts { IfOk result (λ by. Starts wanted by) }

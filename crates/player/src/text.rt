@@ -16,10 +16,7 @@ fn chunk_in(plan: &Plan, row: u16, column: u16) -> u16
     requires column { column < plan.now.d2 }
     ensures { result ≡ chunk_at plan.now.d plan.now.d2 row column }
 {
-    match plan.chunk_at(row, column) {
-        Some(chunk) => chunk,
-        None => unreachable!(),
-    }
+    plan.chunk_at(row, column).unwrap()
 }
 
 // The home row of a stripe.
@@ -27,10 +24,7 @@ fn home_of(plan: &Plan, stripe: u16) -> u16
     requires { stripe < stripes_of plan.now.d plan.now.d2 }
     ensures { result ≡ home_of plan.now.d plan.now.d2 stripe }
 {
-    match plan.home(stripe) {
-        Some(row) => row,
-        None => unreachable!(),
-    }
+    plan.home(stripe).unwrap()
 }
 
 // A line with the chunks of a row.

@@ -110,7 +110,7 @@ impl<'a, F: Field> Carrying<'a, F> {
         ensures { Grows R.valid R.meaning (F.arithmetic self.now.field.now) (scheme_of self.now.load.plan) rack.old rack.new offset (to_row row shares) }
     {
         let slot = self.load.base + row;
-        // k numbers a module and a share: over an iterator of the shares it would be counted beside it, and be no plainer
+        // k is the parity that the contract speaks of, and numbers a module and a share: a `zip` of the two would hide it
         for k in 0..self.load.plan.r2 {
             let module = self.load.plan.d2 + k;
             add_at(rack, self.field, module, slot, offset, shares[k as usize]);
@@ -180,7 +180,8 @@ impl<'a, F: Field> Carrying<'a, F> {
     fn parities_at<R: Rack>(&self, rack: &R, offset: u16) -> [u16; 4]
         ensures { R.valid rack.now → (k : ℕ) → k < (scheme_of self.now.load.plan).r' → slice_index result k ≡ (R.meaning rack.now).symbol ((scheme_of self.now.load.plan).d' + k) self.now.load.group.index offset }
     {
-        // k is a module too, and no parity from r2 on may be fetched: as a closure this wants three clauses, and is no plainer
+        // k is a module too, and no parity from r2 on may be fetched: as a closure this wants three clauses, and of the values behind
+        // an adapter of `iter_mut` nothing is known
         let mut parities = [0; 4];
         for k in 0..self.load.plan.r2 {
             let module = self.load.plan.d2 + k;
@@ -217,7 +218,7 @@ impl<'a, F: Field> Carrying<'a, F> {
         ensures { Grows R.valid R.meaning (F.arithmetic self.now.field.now) (scheme_of self.now.load.plan) rack.old rack.new offset (stripe_gain (F.arithmetic self.now.field.now) (scheme_of self.now.load.plan) self.now.load.group.index (R.meaning rack.old) offset) }
     {
         let gains = self.gains_at(rack, offset);
-        // row numbers a row, a flag and gains: over an iterator of one of them it would be counted beside it, and be no plainer
+        // row is the row that the contract speaks of, and numbers a flag and gains: a `zip` of the two would hide it
         for row in 0..self.load.rows {
             if self.load.touched[row as usize] {
                 self.add_to_row(rack, row, offset, gains[row as usize]);

@@ -18,7 +18,7 @@ pub enum Phase {
     After,
 }
 
-// These are tables of the rules, what a call makes of a phase, and no conversions: by hand, one line for each phase.
+// These are tables of the rules, what a call makes of a phase, and no conversions: by hand, every phase named.
 impl Phase {
     /// The phase that a label says.
     pub(crate) fn opened(after: bool) -> Phase
@@ -65,12 +65,7 @@ impl From<Phase> for u16 {
     ghost from_gives = { λ phase number. number ≡ phase_number phase };
 
     fn from(phase: Phase) -> u16 {
-        match phase {
-            Phase::Before => 0,
-            Phase::UnderWay => 1,
-            Phase::Voided => 2,
-            Phase::After => 3,
-        }
+        phase as u16
     }
 }
 

@@ -13,5 +13,6 @@ pub struct Pool<F: Field, R: Rack> {
     pub(crate) rack: R,
     pub(crate) phase: Phase,
     /// how many stripes are carried
+    // It stands beside the phase, since it is told in every phase: outside a changeover, what the last one left.
     pub(crate) carried: u16,
 }

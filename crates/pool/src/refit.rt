@@ -66,7 +66,7 @@ struct Restoring<'a, F: Field> {
 
 impl<F: Field> Restoring<'_, F> {
     /// Puts one chunk of the group back where it is on the module.
-    // The rack is lent, and the offset and the chunks are of one offset: a struct of them would be made for each offset, and be no plainer.
+    // A struct of the rack, the offset and the chunks would be made anew for each offset, and be no plainer.
     fn put_chunk<R: Rack>(&self, rack: &mut R, offset: u16, e: usize, chunks: [u16; 14])
         requires { e < 14 }
         ensures { R.valid rack.old → R.valid rack.new × (R.meaning rack.new ≡ chunk_put self.now.repair.group self.now.«module» offset e chunks (R.meaning rack.old)) }

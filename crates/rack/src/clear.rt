@@ -11,7 +11,8 @@ pub fn symbol<R: Rack>(rack: &R, module: u16, slot: u16, offset: u16) -> u16
     rack.get(module, slot, offset).unwrap_or(0)
 }
 
-/// Puts 0 at each offset below `until` of a slot. False, and nothing done, where the slot is outside, its module out, or `until` past the length.
+/// Puts 0 at each offset below `until` of a slot. False, and nothing done, where the slot is outside, its module out, or
+/// `until` past the length.
 // It answers a bool since the trait's `put` does.
 pub fn clear_slot<R: Rack>(rack: &mut R, module: u16, slot: u16, until: u16) -> bool
     ensures { R.valid rack.old → Clears (R.meaning rack.old) (R.meaning rack.new) «module» slot until result × R.valid rack.new }

@@ -11,8 +11,9 @@ use crate::shape::Shape;
 use crate::size::Size;
 use layout::refusal::Refusal;
 
-/// A rack over lent cells and a lent map of pages, with one page more than it has slots. The map has the page of each slot, module after module,
-/// and last the spare page. A write goes, with a copy of the rest of the slot's page, to the spare page, and the old page is the next spare.
+/// A rack over lent cells and a lent map of pages, with one page more than it has slots. The map has the page of each slot,
+/// module after module, and last the spare page. A write goes, with a copy of the rest of the slot's page, to the spare page,
+/// and the old page is the next spare.
 /// A number of the order or more means 0. What the pages of a module that is out hold is of no account.
 #[derive(Drop)]
 pub struct TurningRack<'a> {
@@ -89,7 +90,8 @@ impl Rack for TurningRack<'_> {
         self.shape.size.length
     }
 
-    // This and `pull` read as those of a flat rack: each is one call of the shape that both have, so there is no more to share.
+    // This, the four above and `pull` read as those of a flat rack: each is one field or one call of the shape that both have. To give
+    // them in the trait, every rack would have to have a shape.
     fn ask(&self, module: u16) -> bool {
         self.shape.fitted(module)
     }
@@ -144,7 +146,7 @@ impl Rack for TurningRack<'_> {
         if !self.shape.mark(module, true) {
             return false;
         }
-        // By index: a loop over `&self.map[first..end]` that writes `self.cells` is not covered by the borrow checker (five forms tried).
+        // By index: the borrow checker does not cover a loop over `&self.map[first..end]` that writes `self.cells` (five forms tried).
         for entry in first..end {
             let page = self.map[entry];
             clear(self.cells, page_cells(page, size.length));

@@ -13,16 +13,16 @@ loop-j-preserved g c =
     let l : j < length c.args.values = omega arith in
     let at : ℕ = get_or c.args.places j 0 in
     let step : c.if-place.all ≡ set c.loop-j.all at (us j) =
-        elim c.if-place.branch
-        [ then-place w ↦
+    elim c.if-place.branch [
+      | then-place w ↦
           w.all-is
           ∙ ap (λ x. set c.loop-j.all c.from-place.result x) (get_or_default c.args.values j _ d l)
           ∙ ap (λ (i : ℕ). set c.loop-j.all i (us j)) c.from-place.ensures
-        | else-place w ↦
+      | else-place w ↦
           let long : length c.loop-j.all ≡ length c.args.start = ap length (c.loop-j.invariant d) ∙ scattered_length c.args.start c.args.places us d j in
           let past : length c.loop-j.all ≤ at = omega (arith, long, w.if-place, c.from-place.ensures) in
           w.all-is ∙ sym (set_past c.loop-j.all at (us j) past)
-        ] in
+    ] in
     step
     ∙ ap (λ xs. set xs at (us j)) (c.loop-j.invariant d)
     ∙ sym (ap (λ (i : ℕ). scattered c.args.start c.args.places us i) (add-one j))

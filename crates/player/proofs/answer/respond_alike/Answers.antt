@@ -2,7 +2,7 @@ use Rattle.std.proofs.Common.{string_bytes, sym, subst}
 use Rattle.std.specs.Option.{option_copied, option_map}
 use Rattle.player.specs.Holding.{PlanSet}
 use Rattle.player.specs.declared.request.Wanted.TheVariants as wanted
-use Rattle.player.proofs.Plans.{sets_plan, asks_lay, asks_open, lay_possible, pool_possible, none_possible}
+use Rattle.player.proofs.Plans.{sets_plan, asks_lay, asks_open, lay_possible, pool_possible, none_possible, on_ok}
 use Rattle.player.proofs.answer.respond_alike.Goals as goal
 
 pub returns-in_ok-set_plan-in-Plan : goal.returns-in_ok-set_plan-in-Plan
@@ -14,20 +14,22 @@ returns-in_ok-set_plan-in-Plan g c ready =
       none_possible a.request (option_map g.R.Rack.meaning (option_copied c.args.rack)) c.only.ensures.request,
     )
 
-pub returns-in_ok-ask_lay-in-Lay : goal.returns-in_ok-ask_lay-in-Lay
-returns-in_ok-ask_lay-in-Lay g c ready =
-    let a = c.in_ok-ask_lay-in-Lay.field-0 in
-    let h = c.in_ok-ask_lay-in-Lay.ensures ready in
-    let o = option_map g.R.Rack.meaning (option_copied c.args.rack) in (
+pub returns-in-Lay : goal.returns-in-Lay
+returns-in-Lay g c ready =
+    let o = option_map g.R.Rack.meaning (option_copied c.args.rack) in
+    on_ok c.ask_lay.result
+    (λ a h. (
       λ m at. asks_lay c.args.command c.args.plan.now o m c.in-Lay.field a.request (string_bytes a.text) c.in-Lay.is at h,
       lay_possible c.args.plan.now o c.in-Lay.field a.request (string_bytes a.text) h,
-    )
+    ))
+    (c.ask_lay.ensures ready)
 
-pub returns-in_ok-ask_pool-in-Open : goal.returns-in_ok-ask_pool-in-Open
-returns-in_ok-ask_pool-in-Open g c ready =
-    let a = c.in_ok-ask_pool-in-Open.field-0 in
-    let h = c.in_ok-ask_pool-in-Open.ensures ready in
-    let o = option_map g.R.Rack.meaning (option_copied c.args.rack) in (
+pub returns-in-Open : goal.returns-in-Open
+returns-in-Open g c ready =
+    let o = option_map g.R.Rack.meaning (option_copied c.args.rack) in
+    on_ok c.ask_pool.result
+    (λ a h. (
       λ m at. asks_open c.args.command c.args.plan.now o m c.in-Open.field c.in-Open.bytes a.request (string_bytes a.text) c.in-Open.is at h,
       pool_possible (wanted.Open c.in-Open.bytes) o c.in-Open.field a.request (string_bytes a.text) h,
-    )
+    ))
+    (c.ask_pool.ensures ready)
