@@ -239,6 +239,7 @@ impl<'a, F: Field> Carrying<'a, F> {
     fn outside_home(&self) -> u16
         ensures { result ≡ count (λ e. not (slot_at self.now.load.group e == self.now.load.home)) self.now.load.group.size }
     {
+        // `filter` and `count` were tried: what they leave to show takes more proof than the loop, of which the check needs an invariant alone
         let mut n = 0;
         for piece in &self.load.group.pieces[..usize::from(self.load.group.size)] {
             if piece.slot != self.load.home {

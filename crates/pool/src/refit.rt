@@ -24,13 +24,11 @@ use rack::rack::Rack;
 fn has_chunk(group: &Group, module: u16) -> bool
     ensures { HasChunk group.now «module» result }
 {
-    // the index is compared with the size too: as `any` over the indices this wants a clause, and is no plainer
-    for e in 0..14 {
-        if e < group.size as usize && group.pieces[e].module == module {
-            return true;
-        }
-    }
-    false
+    group
+        .pieces
+        .iter()
+        .take(usize::from(group.size))
+        .any(|piece| piece.module == module)
 }
 
 /// Which parity of a group is on a module.
