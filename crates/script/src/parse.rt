@@ -183,6 +183,7 @@ fn open_command(text: &[u8]) -> Option<Command>
 }
 
 // The command of a name that a text writes the arguments of.
+// An array is taken apart by `let` in each arm: of a closure that takes one by a pattern, as in `map`, the check finds no contract.
 fn command_of(name: Name, text: &[u8]) -> Option<Command>
     ensures { Takes name text.now result }
 {

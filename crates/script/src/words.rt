@@ -26,6 +26,7 @@ pub(crate) fn split_word(text: &[u8]) -> (&[u8], &[u8])
 }
 
 // The number that a word writes.
+// Digit by digit: the library's `parse` takes a sign, which no number of a script has.
 fn number(word: &[u8]) -> Option<u16>
     ensures { MatchOption result ((n : ℕ) → Numbered word.now n → ⊥) (λ n. Numbered word.now n) }
 {
@@ -49,6 +50,7 @@ pub(crate) fn is_blank(text: &[u8]) -> bool
 }
 
 // The numbers that the words of a text write, if there are just N and each is a number.
+// A loop over the places, and no `from_fn`: it ends at the first word that is no number.
 pub(crate) fn numbers<const N: usize>(text: &[u8]) -> Option<[u16; N]>
     ensures { MatchOption result ((ns : List ℕ) → length ns ≡ N → Numbers text.now ns → ⊥) (λ ns. (length ns ≡ N) × Numbers text.now ns) }
 {
@@ -88,6 +90,7 @@ fn hex_byte(high: u8, low: u8) -> u8
 }
 
 // The bytes that 32 hexadecimal digits write.
+// A loop over the places: with `from_fn` the premise of its closure stayed to be shown.
 fn hex_bytes(word: &[u8]) -> [u8; 16]
     requires digits { AllDigits 16 word.now }
     requires count { length word.now ≡ 32 }
