@@ -1,6 +1,7 @@
 //! One step of the elimination.
-ghost use Rattle.std.specs.Prelude.{◌≡◌, ℕ, ◌<◌, ◌≤◌, ◌≢◌, slice_index};
+ghost use Rattle.std.specs.Prelude.{◌≡◌, ℕ, ◌<◌, ◌≤◌, ◌≢◌, [], slice_index, slice_index_or};
 ghost use Rattle.field.specs.Elimination.{Grid, Scaled, Reduced, Stepped, Same};
+ghost use Rattle.field.specs.Sums.{minus};
 ghost use Rattle.field.specs.Systems.{at, Codes};
 
 use crate::Field;
@@ -10,7 +11,7 @@ use std::array;
 fn scaled<F: Field>(field: &F, row: [u16; 4], by: u16) -> [u16; 4]
     ensures { Scaled (F.arithmetic field.now) by row result }
 {
-    row.map(|entry| field.mul(by, entry))
+    array::from_fn(|j| field.mul(by, row[j]))
 }
 
 /// The row less a number times the row `top`.
@@ -37,14 +38,33 @@ pub(crate) fn eliminate<F: Field>(
     let by = field.inv(a[column][column]);
     let top = scaled(field, a[column], by);
     let side = field.mul(by, b[column]);
-    let mut rows = a.map(
-        |row: [u16; 4]| -> [u16; 4]
-            requires { column < 4 }
-            ensures { Reduced (F.arithmetic field.entry.now) (slice_index row column) row top result }
-        { reduced(field, row, top, row[column]) },
+    let rows = array::from_fn(
+        |i: usize| -> [u16; 4]
+            requires row { i < 4 }
+            requires column { column < 4 }
+            ensures pivot { i ≡ column → result ≡ top }
+            ensures other { i ≢ column → Reduced (F.arithmetic field.entry.now) (slice_index (slice_index_or a i []) column) (slice_index_or a i []) top result }
+        {
+            if i == column {
+                top
+            } else {
+                reduced(field, a[i], top, a[i][column])
+            }
+        },
     );
-    rows[column] = top;
-    let mut sides = array::from_fn(|i| field.sub(b[i], field.mul(a[i][column], side)));
-    sides[column] = side;
+    let sides = array::from_fn(
+        |i: usize| -> u16
+            requires row { i < 4 }
+            requires column { column < 4 }
+            ensures pivot { i ≡ column → result ≡ side }
+            ensures other { i ≢ column → result ≡ minus (F.arithmetic field.entry.now) (slice_index b i) ((F.arithmetic field.entry.now).mul (slice_index (slice_index_or a i []) column) side) }
+        {
+            if i == column {
+                side
+            } else {
+                field.sub(b[i], field.mul(a[i][column], side))
+            }
+        },
+    );
     (rows, sides)
 }
