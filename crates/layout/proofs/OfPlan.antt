@@ -1,15 +1,20 @@
 -- What holds of the numbers and places of a plan. Assumes nothing.
-use Rattle.std.proofs.Common.{ℕ, ◌+◌, ◌*◌, ◌/◌, ◌%◌, ◌<◌, ◌≤◌, arith}
+use Rattle.std.proofs.Common.{◌≡◌, ℕ, ◌+◌, ◌*◌, ◌/◌, ◌%◌, ◌<◌, ◌≤◌, false, None, ◌∙◌, arith}
 use Rattle.std.proofs.lemmas.Nat.{mul-le, mul-add-lt}
+use Rattle.std.proofs.lemmas.Bool.{cond-false, or_from, le-ltb}
 use Rattle.layout.specs.Counts.{modules_of, slots_of}
 use Rattle.layout.specs.Placement.{placement}
 use Rattle.layout.specs.Placing.{chunks_of, stripes_of, rows_of, row_at, column_at, coeff_at}
 use Rattle.layout.specs.Promises.{Promises, Placed}
+use Rattle.layout.specs.Refusals.{outside, plan_refusal}
 use Rattle.layout.specs.Sizes.{Sized, Inside}
 use Rattle.layout.specs.declared.plan.Plan.{Plan}
 use Rattle.layout.proofs.Bounds as bounds
 use Rattle.layout.proofs.Facts as facts
 use Rattle.layout.proofs.Within as within
+
+in_range : (low high n : ℕ) → low ≤ n → n ≤ high → outside low high n ≡ false
+in_range low high n p q = or_from _ _ (le-ltb n low p) (le-ltb high n q)
 
 module _ (p : Plan) where
   pub sized : Sized p.d p.d2
@@ -20,6 +25,16 @@ module _ (p : Plan) where
 
   pub promises : Promises (placement p.d p.d2)
   promises = placed.promises
+
+  -- the numbers of a plan are not refused
+  pub planned : plan_refusal p.order p.d p.r p.d2 p.r2 p.len ≡ None
+  planned =
+      cond-false _ _ _ (in_range 2 14 p.d p.data_range.0 p.data_range.1) ∙
+      (cond-false _ _ _ (in_range 1 4 p.r p.parity_range.0 p.parity_range.1) ∙
+      (cond-false _ _ _ (in_range 2 14 p.d2 p.data2_range.0 p.data2_range.1) ∙
+      (cond-false _ _ _ (in_range 1 4 p.r2 p.parity2_range.0 p.parity2_range.1) ∙
+      (cond-false _ _ _ (in_range 1 4096 p.len p.len_range.0 p.len_range.1) ∙
+      (cond-false _ _ _ (le-ltb p.r _ p.losses) ∙ cond-false _ _ _ (le-ltb p.order _ p.points))))))
 
   pub chunks_le : chunks_of p.d p.d2 ≤ 182
   chunks_le = bounds.chunks_le sized

@@ -129,24 +129,22 @@ impl Plan {
         })
     }
 
-    // The module and slot of parity k of group i, one of n groups with r parities each, whose first slot is `base`.
-    fn parity_place(&self, base: u16, n: u16, r: u16, i: u16, k: u16) -> Option<Place>
-        requires few { r ≤ 4 }
-        requires small { base + n ≤ 1000 }
-        ensures { ParityPlace self.now.d2 base n r i k result }
+    // The module and slot of parity k of group i, one of n groups with r parities each, where the slots are counted from that of group 0.
+    fn parity_place(&self, n: u16, r: u16, i: u16, k: u16) -> Option<Place>
+        requires { r ≤ 4 }
+        ensures { ParityPlace self.now.d2 0 n r i k result }
     {
         (i < n && k < r).then(|| Place {
             module: self.d2 + k,
-            slot: base + i,
+            slot: i,
         })
     }
 
     /// The module and slot of a parity of a stripe.
-    #[tactic(auto, using(crate::proofs::OfPlan::stripes_le))]
     pub fn stripe_parity_place(&self, stripe: u16, parity: u16) -> Option<Place>
         ensures { ParityPlace self.now.d2 0 (stripes_of self.now.d self.now.d2) self.now.r stripe parity result }
     {
-        self.parity_place(0, self.stripes(), self.r, stripe, parity)
+        self.parity_place(self.stripes(), self.r, stripe, parity)
     }
 
     /// The module and slot of a parity of a row.
@@ -154,7 +152,11 @@ impl Plan {
     pub fn row_parity_place(&self, row: u16, parity: u16) -> Option<Place>
         ensures { ParityPlace self.now.d2 (stripes_of self.now.d self.now.d2) (rows_of self.now.d self.now.d2) self.now.r2 row parity result }
     {
-        self.parity_place(self.stripes(), self.rows(), self.r2, row, parity)
+        let place = self.parity_place(self.rows(), self.r2, row, parity)?;
+        Some(Place {
+            slot: self.stripes() + place.slot,
+            ..place
+        })
     }
 
     /// What a changeover reads in all: data chunks, and parity chunks.

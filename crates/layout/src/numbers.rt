@@ -179,14 +179,16 @@ impl Widths {
         }
     }
 
-    // The home row of stripe s.
-    #[tactic(auto, using(crate::proofs::Small::on_the_way), unfolding(crate::specs::Placing::home_of))]
+    // The home row of stripe s. In a wide placement it is the row of its index 0, which needs no column.
+    #[tactic(auto, using(crate::proofs::Small::on_the_way), unfolding(crate::specs::Placing::home_of, crate::specs::Placing::wide_row))]
     pub fn home(self, s: u16) -> u16
         requires { s < stripes_of self.d self.d2 }
         ensures { result ≡ home_of self.d self.d2 s }
     {
         if self.d <= self.d2 {
-            self.wide_spot(s, 0).row
+            let w = self.d2 / self.d;
+            let whole = w * self.rows();
+            if s < whole { s / w } else { s - whole }
         } else {
             let w = self.d / self.d2;
             s * w + w - 1
