@@ -22,11 +22,16 @@ more_point : (m s n m' s' o' x : ℕ)
     → cond (eqb m' m && (eqb s' s && eqb o' n)) 0 (cond (eqb m' m && (eqb s' s && ltb o' n)) 0 x) ≡ cond (eqb m' m && (eqb s' s && ltb o' (n + 1))) 0 x
 more_point m s n m' s' o' x = grind (arith, nat_tests)
 
+-- each put is done
+pub takes_next : (w : Meaning) (m s n : ℕ) → m < w.modules → s < w.slots → w.fitted m ≡ true → 0 < w.order → n < w.length → takes (cleared w m s n) m s n 0 ≡ true
+takes_next w m s n hm hs hf ho hn =
+    and_from _ _ (and_from _ _ (lt-ltb m w.modules hm) (and_from _ _ (lt-ltb s w.slots hs) (and_from _ _ (lt-ltb n w.length hn) hf))) (lt-ltb 0 w.order ho)
+
 cleared_next : (w : Meaning) (m s n : ℕ) → m < w.modules → s < w.slots → w.fitted m ≡ true → 0 < w.order → n < w.length
     → after_put (cleared w m s n) m s n 0 ≡ cleared w m s (n + 1)
 cleared_next w m s n hm hs hf ho hn =
     cond-true (takes (cleared w m s n) m s n 0) (stored (cleared w m s n) m s n 0) (cleared w m s n)
-    (and_from _ _ (and_from _ _ (lt-ltb m w.modules hm) (and_from _ _ (lt-ltb s w.slots hs) (and_from _ _ (lt-ltb n w.length hn) hf))) (lt-ltb 0 w.order ho))
+    (takes_next w m s n hm hs hf ho hn)
     ∙ (λ i. record {
       order = w.order;
       modules = w.modules;

@@ -1,13 +1,13 @@
 -- What a write to the flat row does to its meaning.
-use Rattle.std.proofs.Common.{◌≡◌, ℕ, ◌+◌, ◌*◌, ◌<◌, ◌≤◌, Bool, true, ◌≢◌, List, length, get_or, set, sym, ap, ◌∙◌, subst, ⊎_elim, mul-le-mul_right, mul_assoc, add-mul, arith, get_or-set_other, get_or-set_same}
+use Rattle.std.proofs.Common.{◌≡◌, ℕ, ◌+◌, ◌*◌, ◌<◌, ◌≤◌, Bool, true, ◌≢◌, List, length, get_or, set, None, sym, ap, ◌∙◌, subst, ⊎_elim, mul-le-mul_right, mul_assoc, add-mul, arith, get_or-set_other, get_or-set_same}
 use lib.Arith.{digits_lt}
-use Rattle.std.proofs.lemmas.Bool.{cond-true, cases_lt}
+use Rattle.std.proofs.lemmas.Bool.{cond-true, cases_lt, and_from, le-leb}
 use Rattle.rack.specs.declared.size.Size.{Size}
 use Rattle.rack.specs.declared.shape.Shape.{Shape}
 use Rattle.rack.specs.Meaning.{fits, stored, flagged, Fits}
 use Rattle.rack.specs.Shaped.{marked, is_unlike}
-use Rattle.rack.specs.Flat.{at, flat, Blanked, FlatSound}
-use Rattle.rack.proofs.Laids.{same_high, same_low, At, fair_marked, laid_put, laid_flag, fits_laid, empty_parts}
+use Rattle.rack.specs.Flat.{at, flat, flat_fits, flat_refusal, Blanked, FlatSound}
+use Rattle.rack.proofs.Laids.{same_high, same_low, unless_true, At, fair_from, fair_marked, laid_put, laid_flag, fits_laid, empty_parts}
 
 pub place_lt : {x : Shape} {m s o : ℕ} → At x m s o → at x.size m s o < x.size.modules * x.size.slots * x.size.length
 place_lt h = digits_lt (digits_lt h.module_inside h.slot_inside) h.offset_inside
@@ -69,3 +69,8 @@ flat_fit x x' m cells cells' h e a long blanked =
       record { answer = sym t; after = ap (λ y. flat y cells') a ∙ same ∙ sym (cond-true (fits w m) (flagged w m true) w t) },
       subst (λ y. FlatSound y cells') (sym a) (flat_marked m true (flat_keeps h long)),
     )
+
+-- memory that is sound is not refused
+pub flat_unrefused : (x : Shape) (cells : List ℕ) → FlatSound x cells → flat_refusal cells x.size ≡ None
+flat_unrefused x cells h =
+    unless_true (flat_fits cells x.size) (and_from _ _ (fair_from x h.numbers) (le-leb (x.size.modules * x.size.slots * x.size.length) (length cells) h.room))

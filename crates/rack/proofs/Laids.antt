@@ -28,6 +28,9 @@ unless_none false e = let z : ◌≡◌ {A = ℕ} 0 1 = cc in absurd (omega arit
 pub unless_true : (b : Bool) → b ≡ true → unless b ≡ None
 unless_true b e = cond-true b None (Some UnfitMemory) e
 
+pub unless_false : (b : Bool) → b ≡ false → unless b ≡ Some UnfitMemory
+unless_false b e = cond-false b None (Some UnfitMemory) e
+
 -- the test on the four numbers, and the facts
 pub fair_parts : (x : Shape) → length x.on ≡ 32 → fair x.size ≡ true → Fair x
 fair_parts x f t = record {
@@ -148,15 +151,6 @@ holds_laid {x = x} lies {m = m} {s = s} {o = o} h =
 
 pub takes_laid : {x : Shape} (lies : ℕ → ℕ → ℕ → ℕ) {m s o v : ℕ} → At x m s o → v < x.size.order → takes (laid x lies) m s o v ≡ true
 takes_laid {x = x} lies {v = v} h hv = and_from _ _ (holds_laid lies h) (lt-ltb v x.size.order hv)
-
--- what a read answers at a place inside
-pub read_laid : {x : Shape} (lies : ℕ → ℕ → ℕ → ℕ) {m s o : ℕ} (cells : List ℕ) (i : ℕ) → At x m s o → i < length cells → get_or cells i 0 ≡ lies m s o
-    → cond (ltb i (length cells)) (Some (low x.size.order (get_or cells i 0))) None ≡ symbol_at (laid x lies) m s o
-read_laid {x = x} lies {m = m} {s = s} {o = o} cells i h l e =
-    cond-true (ltb i (length cells)) (Some (low x.size.order (get_or cells i 0))) None (lt-ltb i (length cells) l)
-    ∙ ap (λ v. Some (low x.size.order v)) e
-    ∙ ap (λ v. Some v) (sym (cond-true (inside x m s o) (low x.size.order (lies m s o)) 0 (inside_from h)))
-    ∙ sym (cond-true (holds (laid x lies) m s o) (Some ((laid x lies).symbol m s o)) None (holds_laid lies h))
 
 -- the flags
 flag_point : (x : Shape) (m m' : ℕ) (b : Bool) → m < x.size.modules → m < length x.on

@@ -1,6 +1,5 @@
 // What both racks do with their cells and numbers.
-ghost use Rattle.std.specs.Prelude.{◌≡◌, ℕ, ◌+◌, ◌*◌, ◌<◌, ◌≤◌, length, Some, None, if◌then◌else◌, nat_lt, slice_index};
-ghost use Rattle.rack.specs.Laid.{low};
+ghost use Rattle.std.specs.Prelude.{◌≡◌, ℕ, ◌+◌, ◌*◌, ◌<◌, ◌≤◌, slice_index};
 ghost use Rattle.rack.specs.Flat.{at};
 
 use crate::size::Size;
@@ -35,14 +34,6 @@ pub(crate) fn module_cells(size: Size, module: u16) -> Range<usize>
     let count = usize::from(size.slots) * usize::from(size.length);
     let start = usize::from(module) * count;
     start..start + count
-}
-
-/// The symbol that a cell's number means. None where the cell is outside.
-pub(crate) fn read(cells: &[u16], place: usize, order: u16) -> Option<u16>
-    ensures { result ≡ (if nat_lt place (length cells.now) then Some (low order (slice_index cells.now place)) else None) }
-{
-    let number = *cells.get(place)?;
-    Some(if number < order { number } else { 0 })
 }
 
 /// Writes 0 into each cell of a range. What of the range lies past the last cell is of no account.

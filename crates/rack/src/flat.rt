@@ -4,7 +4,7 @@ ghost use Rattle.rack.specs.Shaped.{full};
 ghost use Rattle.rack.specs.Flat.{at, flat, flat_refusal, Blanked, flat_bounded, Sound, meaning_of};
 ghost use Rattle.rack.specs.Meaning.{Puts, Pulls, Fits};
 
-use crate::cells::{clear, module_cells, place, read, slots_in_all};
+use crate::cells::{clear, module_cells, place, slots_in_all};
 use crate::rack::Rack;
 use crate::shape::Shape;
 use crate::size::Size;
@@ -85,15 +85,23 @@ impl Rack for FlatRack<'_> {
             return None;
         }
         let at = place(self.shape.size, module, slot, offset);
-        read(self.cells, at, self.shape.size.order)
+        let number = *self.cells.get(at)?;
+        Some(if number < self.shape.size.order {
+            number
+        } else {
+            0
+        })
     }
 
     fn put(&mut self, module: u16, slot: u16, offset: u16, symbol: u16) -> bool
         ensures puts { Sound self.old → Puts (meaning_of self.old) (meaning_of self.new) «module» slot offset symbol result × Sound self.new }
         ensures cells { self.new.cells.now ≡ (if result then slice_set self.old.cells.now (at self.old.shape.size «module» slot offset) symbol else self.old.cells.now) }
     {
+        if !self.shape.takes(module, slot, offset, symbol) {
+            return false;
+        }
         let at = place(self.shape.size, module, slot, offset);
-        if !self.shape.takes(module, slot, offset, symbol) || at >= self.cells.len() {
+        if at >= self.cells.len() {
             return false;
         }
         self.cells[at] = symbol;

@@ -4,7 +4,7 @@ ghost use Rattle.rack.specs.Meaning.{Puts, Pulls, Fits};
 ghost use Rattle.rack.specs.Shaped.{full};
 ghost use Rattle.rack.specs.Turning.{turned, turn_refusal, Turns, PagesBlanked, turn_bounded, Sound, meaning_of};
 
-use crate::cells::{clear, read, slot_number, slots_in_all};
+use crate::cells::{clear, slot_number, slots_in_all};
 use crate::pages::{all_once, page_cell, page_cells, turn};
 use crate::rack::Rack;
 use crate::shape::Shape;
@@ -102,7 +102,8 @@ impl Rack for TurningRack<'_> {
         }
         let size = self.shape.size;
         let page = *self.map.get(slot_number(size, module, slot))?;
-        read(self.cells, page_cell(page, size.length, offset), size.order)
+        let number = *self.cells.get(page_cell(page, size.length, offset))?;
+        Some(if number < size.order { number } else { 0 })
     }
 
     fn put(&mut self, module: u16, slot: u16, offset: u16, symbol: u16) -> bool

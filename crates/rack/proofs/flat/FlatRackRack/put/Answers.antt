@@ -4,16 +4,14 @@ use Rattle.rack.specs.Flat.{at, flat}
 use Rattle.rack.proofs.Laids.{takes_parts, takes_laid}
 use Rattle.rack.proofs.Flats.{place_lt, flat_put, flat_keeps}
 use Rattle.rack.proofs.flat.FlatRackRack.put.Goals as goal
-use Rattle.rack.proofs.flat.FlatRackRack.put.Goals.{then-not-takes-via-then-not-takes, then-not-takes-via-else-not-takes+then-at-self}
 
 pub returns-then-not-takes-clause-puts : goal.returns-then-not-takes-clause-puts
-returns-then-not-takes-clause-puts c h =
-    elim c.then-not-takes.branch [
-      | then-not-takes-via-then-not-takes w ↦ let high = h.numbers.modules_high in search rules
-      | then-not-takes-via-else-not-takes+then-at-self w ↦
-          let p = takes_parts c.args.self.now.shape c.args.module c.args.slot c.args.offset c.args.symbol w.if-not-takes.ensures in
-          absurd (omega (arith, place_lt p.0, h.room, c.place-at.ensures, w.if-at-self.true))
-    ]
+returns-then-not-takes-clause-puts c h = let high = h.numbers.modules_high in search rules
+
+pub returns-then-at-self-clause-puts : goal.returns-then-at-self-clause-puts
+returns-then-at-self-clause-puts c h =
+    let p = takes_parts c.args.self.now.shape c.args.module c.args.slot c.args.offset c.args.symbol c.if-not-takes.ensures in
+    absurd (omega (arith, place_lt p.0, h.room, c.place-at.ensures, c.if-at-self.true))
 
 pub returns-clause-puts : goal.returns-clause-puts
 returns-clause-puts c h =
