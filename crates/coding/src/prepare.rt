@@ -72,7 +72,7 @@ impl Group {
     fn sources(&self, parities: [u8; 4]) -> [u16; 4]
         ensures { (j : ℕ) → j < 4 → slice_index result j ≡ min (self.now.first + slice_index parities j) u16.MAX }
     {
-        parities.map(|k| self.first.saturating_add(u16::from(k)))
+        array::from_fn(|j| self.first.saturating_add(u16::from(parities[j])))
     }
 
     /// The coefficients of the chunks of the group in the first `n` of the parities.

@@ -76,7 +76,8 @@ impl Repair {
     fn numbered(&self, symbols: [u16; 4]) -> [Option<u16>; 4]
         ensures { result ≡ scattered (replicate 4 None) self.now.parities (λ j. Some (slice_index symbols j)) self.now.count }
     {
-        scatter([None; 4], self.parities, symbols.map(Some), self.count)
+        let values = array::from_fn(|j| Some(symbols[j]));
+        scatter([None; 4], self.parities, values, self.count)
     }
 
     /// Side `j` of the equations; zero past the last of them.
