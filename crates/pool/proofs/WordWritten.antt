@@ -104,7 +104,8 @@ pub record Meant (A : Arithmetic) (p : Scheme) (s : Standing) (c v old at row sl
   pub row_is : row ≡ p.row c
   pub slot_is : slot ≡ slot_of p (settled s.phase) (group_of p (settled s.phase) c)
   pub count_is : n ≡ parities p (settled s.phase)
-  pub shares_are : (k : ℕ) → k < 4 → get_or shares k 0 ≡ share_of A (p.x c) (minus A v old) k
+  pub shares_are : (k : ℕ) → k < n → get_or shares k 0 ≡ share_of A (p.x c) (minus A v old) k
+  pub staged_are : true ≡ is_staged s.phase s.carried p c → (k : ℕ) → k < p.r' → get_or shares k 0 ≡ share_of A (p.x c) (minus A v old) k
 
 spans_changed : (A : Arithmetic) (w : Meaning) (f : ℕ → ℕ → ℕ → ℕ) (end slot o : ℕ) → Spans A w end slot o → Spans A (changed w f) end slot o
 spans_changed A w f end slot o h = record { order_is = h.order_is; modules_fit = h.modules_fit; slot_fits = h.slot_fits; offset_fits = h.offset_fits }
@@ -196,13 +197,13 @@ module _ (A : Arithmetic) (p : Scheme) (sound : Sound A p) (s : Standing) (kept 
     after_settled : (w w' : Meaning) → w ≡ Put → w' ≡ changed w (added_to A w p.d' slot n o given) → w' ≡ Settled
     unfolding Put Settled
     after_settled w w' e e' =
-        e' ∙ added_as A w p.d' slot n o given share (λ k l. meant.shares_are k (omega (arith, meant.count_is, few_parities A p sound (settled s.phase))))
+        e' ∙ added_as A w p.d' slot n o given share meant.shares_are
         ∙ (λ i. changed (e i) (added_to A (e i) p.d' (meant.slot_is i) (meant.count_is i) o share))
 
-    after_staged : (w w' : Meaning) → w ≡ Settled → w' ≡ changed w (added_to A w p.d' (p.stripes + row) p.r' o given) → w' ≡ Staged
+    after_staged : true ≡ is_staged s.phase s.carried p c → (w w' : Meaning) → w ≡ Settled → w' ≡ changed w (added_to A w p.d' (p.stripes + row) p.r' o given) → w' ≡ Staged
     unfolding Put Settled Staged
-    after_staged w w' e e' =
-        e' ∙ added_as A w p.d' (p.stripes + row) p.r' o given share (λ k l. meant.shares_are k (omega (arith, sound.few')))
+    after_staged q w w' e e' =
+        e' ∙ added_as A w p.d' (p.stripes + row) p.r' o given share (meant.staged_are q)
         ∙ (λ i. changed (e i) (added_to A (e i) p.d' (p.stripes + meant.row_is i) p.r' o share))
 
     settled_in : (w : Meaning) → w ≡ Put → Spans A w (p.d' + n) slot o
@@ -244,17 +245,22 @@ module _ (A : Arithmetic) (p : Scheme) (sound : Sound A p) (s : Standing) (kept 
         pub written_staged : (w'' : Meaning) (stripes : ℕ) → stripes ≡ p.stripes → w'' ≡ changed w' (added_to A w' p.d' (stripes + row) p.r' o given) →
             true ≡ is_staged s.phase s.carried p c → w'' ≡ changed s.held (written_symbol A p s c o v old)
         written_staged w'' stripes is more q =
-            after_staged w' w'' (after_settled w w' (after_put_lem w put) added) (more ∙ ap (λ (n : ℕ). changed w' (added_to A w' p.d' (n + row) p.r' o given)) is) ∙ staged_is (sym q)
+            after_staged q w' w'' (after_settled w w' (after_put_lem w put) added) (more ∙ ap (λ (n : ℕ). changed w' (added_to A w' p.d' (n + row) p.r' o given)) is) ∙ staged_is (sym q)
 
 -- what the code works out of a plan is what is meant
-pub meant_of : (P : Plan) (A : Arithmetic) (s : Standing) (c v old : ℕ) (cell : Cell) → CellOf P.d P.d2 c (Some cell) → (t : Kind) (i slot n change : ℕ) (shares : List ℕ) →
+pub meant_of : (P : Plan) (A : Arithmetic) → Sound A (scheme_of P) → (s : Standing) (c v old : ℕ) (cell : Cell) → CellOf P.d P.d2 c (Some cell) → (t : Kind) (i slot n change most : ℕ) (shares : List ℕ) →
     t ≡ settled s.phase → i ≡ group_of (scheme_of P) t c → slot ≡ slot_of (scheme_of P) t i → n ≡ parities (scheme_of P) t → change ≡ minus A v old →
-    ((k : ℕ) → k < 4 → get_or shares k 0 ≡ share_of A cell.x change k) → Meant A (scheme_of P) s c v old cell.column cell.row slot n shares
-meant_of P A s c v old cell at t i slot n change shares te ie se ne ce are =
+    parities (scheme_of P) (settled s.phase) ≤ most → (true ≡ is_staged s.phase s.carried (scheme_of P) c → (scheme_of P).r' ≤ most) →
+    ((k : ℕ) → k < 4 → k < most → get_or shares k 0 ≡ share_of A cell.x change k) → Meant A (scheme_of P) s c v old cell.column cell.row slot n shares
+meant_of P A sound s c v old cell at t i slot n change most shares te ie se ne ce enough enough' are =
+    let few = few_parities A (scheme_of P) sound (settled s.phase) in
+    let count : n ≡ parities (scheme_of P) (settled s.phase) = ne ∙ (λ k. parities (scheme_of P) (te k)) in
+    let each : (k : ℕ) → k < 4 → k < most → get_or shares k 0 ≡ share_of A ((scheme_of P).x c) (minus A v old) k = λ k l m. are k l m ∙ (λ i. share_of A (groups.x_is P c cell at i) (ce i) k) in
     record {
       at_is = groups.column_is P c cell at;
       row_is = groups.row_is P c cell at;
       slot_is = se ∙ (λ k. slot_of (scheme_of P) (te k) ((ie ∙ (λ q. group_of (scheme_of P) (te q) c)) k));
-      count_is = ne ∙ (λ k. parities (scheme_of P) (te k));
-      shares_are = λ k l. are k l ∙ (λ i. share_of A (groups.x_is P c cell at i) (ce i) k);
+      count_is = count;
+      shares_are = λ k l. each k (omega (arith, count, few)) (omega (arith, count, enough));
+      staged_are = λ q k l. each k (omega (arith, sound.few')) (omega (arith, enough' q));
     }

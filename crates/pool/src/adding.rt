@@ -5,6 +5,7 @@ ghost use Rattle.pool.specs.WordSteps.{added_at, added_to, share_of, Fetched, Sp
 
 use field::{Field, coefficient};
 use rack::rack::Rack;
+use std::array;
 
 /// Parities of a group that a write keeps up.
 #[derive(Clone, Copy)]
@@ -35,14 +36,22 @@ pub(crate) fn add_at<F: Field, R: Rack>(
     }
 }
 
-/// What a change of a chunk, whose coefficient column is `x`, adds to each parity: the change times its coefficient.
-pub(crate) fn shares_of<F: Field>(field: &F, x: u8, change: u16) -> [u16; 4]
-    ensures { (k : ℕ) → k < 4 → slice_index result k ≡ share_of (F.arithmetic field.now) x change k }
+/// What a change of a chunk, whose coefficient column is `x`, adds to each of the first `n` parities: the change times its
+/// coefficient. Those of the others are not worked out.
+pub(crate) fn shares_of<F: Field>(field: &F, x: u8, change: u16, n: u16) -> [u16; 4]
+    ensures { (k : ℕ) → k < 4 → k < n → slice_index result k ≡ share_of (F.arithmetic field.now) x change k }
 {
-    [0, 1, 2, 3].map(
-        |k: u8| -> u16
-            ensures { result ≡ share_of (F.arithmetic field.entry.now) x change k }
-        { field.mul(coefficient(field, k, x), change) },
+    array::from_fn(
+        |k: usize| -> u16
+            requires { k < 4 }
+            ensures { k < n → result ≡ share_of (F.arithmetic field.entry.now) x change k }
+        {
+            if k < usize::from(n) {
+                field.mul(coefficient(field, k as u8, x), change)
+            } else {
+                0
+            }
+        },
     )
 }
 

@@ -31,7 +31,7 @@ type Gains = [[u16; 4]; 14];
 fn negated<F: Field>(field: &F, shares: [u16; 4]) -> [u16; 4]
     ensures { (k : ℕ) → k < 4 → slice_index result k ≡ (F.arithmetic field.now).neg (slice_index shares k) }
 {
-    shares.map(|share| field.neg(share))
+    array::from_fn(|k| field.neg(shares[k]))
 }
 
 /// The sums of two lists, place by place.
@@ -41,14 +41,13 @@ fn sums<F: Field>(field: &F, a: [u16; 4], b: [u16; 4]) -> [u16; 4]
     array::from_fn(|k| field.add(a[k], b[k]))
 }
 
-/// The gains with shares added to those of a row.
-fn add_shares<F: Field>(field: &F, mut gains: Gains, row: u16, shares: [u16; 4]) -> Gains
+/// Adds shares to the gains of a row.
+fn add_shares<F: Field>(field: &F, gains: &mut Gains, row: u16, shares: [u16; 4])
     requires inside { row < 14 }
-    ensures { Adds (F.arithmetic field.now) 4 14 (to_row row shares) gains result }
+    ensures { Adds (F.arithmetic field.now) 4 14 (to_row row shares) gains.old gains.new }
 {
     let more = sums(field, gains[row as usize], shares);
     gains[row as usize] = more;
-    gains
 }
 
 /// The coefficients of the stripe's chunks in each parity.
@@ -105,9 +104,9 @@ impl<'a, F: Field> Carrying<'a, F> {
     }
 
     /// Adds to the staged parities of a row at an offset, to each its share.
-    fn add_to_row<R: Rack>(&self, rack: &mut R, row: u16, offset: u16, shares: [u16; 4])
+    fn add_to_row<R: Rack>(&self, rack: &mut R, row: u16, offset: u16, shares: &[u16; 4])
         requires { row < (scheme_of self.now.load.plan).rows }
-        ensures { Grows R.valid R.meaning (F.arithmetic self.now.field.now) (scheme_of self.now.load.plan) rack.old rack.new offset (to_row row shares) }
+        ensures { Grows R.valid R.meaning (F.arithmetic self.now.field.now) (scheme_of self.now.load.plan) rack.old rack.new offset (to_row row shares.now) }
     {
         let slot = self.load.base + row;
         // k is the parity that the contract speaks of, and numbers a module and a share: a `zip` of the two would hide it
@@ -117,7 +116,7 @@ impl<'a, F: Field> Carrying<'a, F> {
         }
     }
 
-    /// What chunk `e` of the stripe adds at an offset to each parity of its row. The chunk is fetched once.
+    /// What chunk `e` of the stripe adds at an offset to each parity of its row, as many as a row has. The chunk is fetched once.
     // The rack, the chunk and the offset go from call to call to this one: a struct of the three would lend the rack for as long as it
     // lives, and the gains beside it go in and out, so it would be no plainer.
     fn shares_at<R: Rack>(&self, rack: &R, e: usize, offset: u16) -> [u16; 4]
@@ -127,67 +126,70 @@ impl<'a, F: Field> Carrying<'a, F> {
         let piece = self.load.group.pieces[e];
         let value = symbol(rack, piece.module, piece.slot, offset);
         let field = self.field;
-        self.load.weights.map(
-            |weights: [u16; 14]| -> u16
-                requires { e < 14 }
-                ensures { result ≡ (F.arithmetic field.entry.now).mul (slice_index weights e) value }
-            { field.mul(weights[e], value) },
+        let weights = &self.load.weights;
+        let count = usize::from(self.load.plan.r2);
+        array::from_fn(
+            |k: usize| -> u16
+                requires row { k < 4 }
+                requires column { e < 14 }
+                ensures { k < count → result ≡ (F.arithmetic field.entry.now).mul (slice_index (slice_index_or weights.entry.now k []) e) value }
+            {
+                if k < count {
+                    field.mul(weights[k][e], value)
+                } else {
+                    0
+                }
+            },
         )
     }
 
-    /// The gains with chunk `e` of the stripe added to its own row.
-    fn add_chunk<R: Rack>(&self, rack: &R, gains: Gains, e: usize, offset: u16) -> Gains
+    /// Adds chunk `e` of the stripe to the gains of its own row.
+    fn add_chunk<R: Rack>(&self, rack: &R, gains: &mut Gains, e: usize, offset: u16)
         requires { e < self.now.load.group.size }
-        ensures { R.valid rack.now → Adds (F.arithmetic self.now.field.now) (scheme_of self.now.load.plan).r' (scheme_of self.now.load.plan).rows (λ k h. own_row (F.arithmetic self.now.field.now) (scheme_of self.now.load.plan) self.now.load.group.index k (chunks_at (scheme_of self.now.load.plan) (R.meaning rack.now) offset) h e) gains result }
+        ensures { R.valid rack.now → Adds (F.arithmetic self.now.field.now) (scheme_of self.now.load.plan).r' (scheme_of self.now.load.plan).rows (λ k h. own_row (F.arithmetic self.now.field.now) (scheme_of self.now.load.plan) self.now.load.group.index k (chunks_at (scheme_of self.now.load.plan) (R.meaning rack.now) offset) h e) gains.old gains.new }
     {
         let shares = self.shares_at(rack, e, offset);
-        add_shares(self.field, gains, self.load.group.pieces[e].slot, shares)
+        add_shares(self.field, gains, self.load.group.pieces[e].slot, shares);
     }
 
-    /// The gains with chunk `e` of the stripe moved from the home row, which has the stripe's parities, to its own row. A chunk of
-    /// the home row is not fetched.
-    fn move_chunk<R: Rack>(&self, rack: &R, gains: Gains, e: usize, offset: u16) -> Gains
+    /// Moves chunk `e` of the stripe from the gains of the home row, which has the stripe's parities, to those of its own row. A chunk
+    /// of the home row is not fetched.
+    fn move_chunk<R: Rack>(&self, rack: &R, gains: &mut Gains, e: usize, offset: u16)
         requires { e < self.now.load.group.size }
-        ensures { R.valid rack.now → Adds (F.arithmetic self.now.field.now) (scheme_of self.now.load.plan).r' (scheme_of self.now.load.plan).rows (λ k h. outside_row (F.arithmetic self.now.field.now) (scheme_of self.now.load.plan) self.now.load.group.index k (chunks_at (scheme_of self.now.load.plan) (R.meaning rack.now) offset) h e) gains result }
+        ensures { R.valid rack.now → Adds (F.arithmetic self.now.field.now) (scheme_of self.now.load.plan).r' (scheme_of self.now.load.plan).rows (λ k h. outside_row (F.arithmetic self.now.field.now) (scheme_of self.now.load.plan) self.now.load.group.index k (chunks_at (scheme_of self.now.load.plan) (R.meaning rack.now) offset) h e) gains.old gains.new }
     {
         let row = self.load.group.pieces[e].slot;
         if row == self.load.home {
-            return gains;
+            return;
         }
         let shares = self.shares_at(rack, e, offset);
-        let taken = add_shares(
-            self.field,
-            gains,
-            self.load.home,
-            negated(self.field, shares),
-        );
-        add_shares(self.field, taken, row, shares)
+        let taken = negated(self.field, shares);
+        add_shares(self.field, gains, self.load.home, taken);
+        add_shares(self.field, gains, row, shares);
     }
 
-    /// The gains with what chunk `e` of the stripe adds.
-    fn gain_chunk<R: Rack>(&self, rack: &R, gains: Gains, e: usize, offset: u16) -> Gains
+    /// Adds what chunk `e` of the stripe adds to the gains.
+    fn gain_chunk<R: Rack>(&self, rack: &R, gains: &mut Gains, e: usize, offset: u16)
         requires { e < self.now.load.group.size }
-        ensures { R.valid rack.now → Adds (F.arithmetic self.now.field.now) (scheme_of self.now.load.plan).r' (scheme_of self.now.load.plan).rows (chunk_gain (F.arithmetic self.now.field.now) (scheme_of self.now.load.plan) self.now.load.group.index (chunks_at (scheme_of self.now.load.plan) (R.meaning rack.now) offset) e) gains result }
+        ensures { R.valid rack.now → Adds (F.arithmetic self.now.field.now) (scheme_of self.now.load.plan).r' (scheme_of self.now.load.plan).rows (chunk_gain (F.arithmetic self.now.field.now) (scheme_of self.now.load.plan) self.now.load.group.index (chunks_at (scheme_of self.now.load.plan) (R.meaning rack.now) offset) e) gains.old gains.new }
     {
         if self.load.plan.r2 <= self.load.plan.r {
-            self.move_chunk(rack, gains, e, offset)
+            self.move_chunk(rack, gains, e, offset);
         } else {
-            self.add_chunk(rack, gains, e, offset)
+            self.add_chunk(rack, gains, e, offset);
         }
     }
 
-    /// The parities of the stripe at an offset, as many as a row has. Each is fetched once.
-    fn parities_at<R: Rack>(&self, rack: &R, offset: u16) -> [u16; 4]
-        ensures { R.valid rack.now → (k : ℕ) → k < (scheme_of self.now.load.plan).r' → slice_index result k ≡ (R.meaning rack.now).symbol ((scheme_of self.now.load.plan).d' + k) self.now.load.group.index offset }
+    /// Fetches the parities of the stripe at an offset, as many as a row has, each once.
+    fn parities_at<R: Rack>(&self, rack: &R, offset: u16, parities: &mut [u16; 4])
+        ensures { R.valid rack.now → (k : ℕ) → k < (scheme_of self.now.load.plan).r' → slice_index parities.new k ≡ (R.meaning rack.now).symbol ((scheme_of self.now.load.plan).d' + k) self.now.load.group.index offset }
     {
         // k is a module too, and no parity from r2 on may be fetched: as a closure this wants three clauses, and of the values behind
         // an adapter of `iter_mut` nothing is known
-        let mut parities = [0; 4];
         for k in 0..self.load.plan.r2 {
             let module = self.load.plan.d2 + k;
             parities[k as usize] = symbol(rack, module, self.load.group.index, offset);
         }
-        parities
     }
 
     /// The gains of the stripe's own parities: they go to its home row, unless a row has more parities than a stripe.
@@ -196,7 +198,7 @@ impl<'a, F: Field> Carrying<'a, F> {
     {
         let mut gains = [[0; 4]; 14];
         if self.load.plan.r2 <= self.load.plan.r {
-            gains[self.load.home as usize] = self.parities_at(rack, offset);
+            self.parities_at(rack, offset, &mut gains[self.load.home as usize]);
         }
         gains
     }
@@ -207,8 +209,7 @@ impl<'a, F: Field> Carrying<'a, F> {
     {
         let mut gains = self.gain_parities(rack, offset);
         for e in 0..self.load.group.size as usize {
-            let more = self.gain_chunk(rack, gains, e, offset);
-            gains = more;
+            self.gain_chunk(rack, &mut gains, e, offset);
         }
         gains
     }
@@ -221,7 +222,7 @@ impl<'a, F: Field> Carrying<'a, F> {
         // row is the row that the contract speaks of, and numbers a flag and gains: a `zip` of the two would hide it
         for row in 0..self.load.rows {
             if self.load.touched[row as usize] {
-                self.add_to_row(rack, row, offset, gains[row as usize]);
+                self.add_to_row(rack, row, offset, &gains[row as usize]);
             }
         }
     }

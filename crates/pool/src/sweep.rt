@@ -27,6 +27,8 @@ fn lowest_out<R: Rack>(rack: &R, modules: u16) -> Option<u16>
 }
 
 /// Puts 0 at the offsets below `until` of some slots of a module.
+// Inlined, as `clear_slot` is, and for the same reason.
+#[inline(always)]
 fn clear_slots<R: Rack>(rack: &mut R, module: u16, first: u16, last: u16, until: u16)
     ensures { R.valid rack.old → Blocked «module» («module» + 1) first last until (R.meaning rack.old) → (R.meaning rack.new ≡ zeroed «module» («module» + 1) first last until (R.meaning rack.old)) × R.valid rack.new }
 {
@@ -36,6 +38,7 @@ fn clear_slots<R: Rack>(rack: &mut R, module: u16, first: u16, last: u16, until:
 }
 
 /// Puts 0 at the offsets below `until` of some slots of some modules.
+#[inline(always)]
 pub(crate) fn clear_block<R: Rack>(
     rack: &mut R,
     low: u16,

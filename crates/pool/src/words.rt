@@ -1,6 +1,8 @@
 // Reading and writing a word.
-ghost use Rattle.std.specs.Prelude.{◌≡◌, ◌<◌, false, Ok};
+ghost use Rattle.std.specs.Prelude.{◌≡◌, ◌<◌, ◌≤◌, true, false, Ok};
+ghost use Rattle.coding.specs.Groups.{parities};
 ghost use Rattle.coding.specs.Schemes.{scheme_of};
+ghost use Rattle.pool.specs.Book.{settled};
 ghost use Rattle.pool.specs.Effects.{is_staged};
 ghost use Rattle.pool.specs.Pools.{Held, Obeys, standing};
 ghost use Rattle.pool.specs.Results.{of_done, of_symbol};
@@ -80,6 +82,19 @@ impl<F: Field, R: Rack> Pool<F, R> {
         }
     }
 
+    /// As many parities as a write of the word keeps up of its settled group, and of its staged row if it is staged.
+    fn most_parities(&self, word: Word) -> u16
+        ensures settled { parities (scheme_of word.plan) (settled self.now.phase) ≤ result }
+        ensures staged { true ≡ is_staged self.now.phase self.now.carried (scheme_of word.plan) word.chunk → (scheme_of word.plan).r' ≤ result }
+    {
+        let settled = self.phase.settled().parities(&word.plan);
+        if self.is_staged(word) {
+            settled.max(word.plan.r2)
+        } else {
+            settled
+        }
+    }
+
     /// Stores the symbol of a word over its old one: in the rack, where its module is fitted, and in the settled parities, and
     /// the staged ones if there are any, of its chunk. Each parity is fetched once.
     fn store_word(&mut self, word: Word, symbol: u16, old: Found)
@@ -101,7 +116,8 @@ impl<F: Field, R: Rack> Pool<F, R> {
             fetched,
         };
         let change = self.field.sub(symbol, old.symbol);
-        let shares = shares_of(&self.field, cell.x as u8, change);
+        let most = self.most_parities(word);
+        let shares = shares_of(&self.field, cell.x as u8, change, most);
         let _ = self.rack.put(cell.column, cell.row, offset, symbol);
         add_parities(&mut self.rack, &self.field, settled, offset, shares);
         if self.is_staged(word) {

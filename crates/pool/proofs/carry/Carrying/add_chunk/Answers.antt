@@ -20,4 +20,4 @@ returns g c =
     let p = scheme_of x.plan in
     let e = c.args.e in
     adds_own A L p x.group.index e (chunks_at p (g.R.Rack.meaning c.args.rack.now) c.args.offset)
-    x.plan.parity2_range.1 (layout.rows_le x.plan) (slot_at x.group e) (slot_of_lem A x c.args.self.now.loaded e c.requires) c.shares_at-shares.result (c.shares_at-shares.ensures v) c.args.gains c.add_shares.result c.add_shares.ensures
+    x.plan.parity2_range.1 (layout.rows_le x.plan) (slot_at x.group e) (slot_of_lem A x c.args.self.now.loaded e c.requires) c.shares_at-shares.result (c.shares_at-shares.ensures v) c.args.gains.now c.add_shares.new.gains c.add_shares.ensures

@@ -17,7 +17,7 @@ loop-k-init g c =
     let L = g.met.F.Field.lawful c.args.self.now.field.now in
     let p = scheme_of c.args.self.now.load.plan in
     let w = g.R.Rack.meaning c.args.rack.now in
-    (v, row_none A L p c.args.offset w c.args.row c.args.shares (room_below A p w room (g.R.Rack.bounded c.args.rack.now v)))
+    (v, row_none A L p c.args.offset w c.args.row c.args.shares.now (room_below A p w room (g.R.Rack.bounded c.args.rack.now v)))
 
 pub loop-k-preserved : goal.loop-k-preserved
 loop-k-preserved g c =
@@ -31,7 +31,7 @@ loop-k-preserved g c =
     let row = c.args.row in
     let n = c.loop-k.k in
     let inv = c.loop-k.invariant v room lo in
-    let room₁ : Whole A p w₁ = room_kept A p w w₁ (grown_symbol A p w c.args.offset (part_row row c.args.shares n)) inv.1 room in
+    let room₁ : Whole A p w₁ = room_kept A p w w₁ (grown_symbol A p w c.args.offset (part_row row c.args.shares.now n)) inv.1 room in
     let ln : n < p.r' = omega arith in
     let slot : c.args.self.now.load.base + row ≡ p.stripes + row = ap (λ (b : ℕ). b + row) c.args.self.now.loaded.base_is in
     let inside : p.d' + n < modules p = layout.row_parity_lt plan n ln in
@@ -39,7 +39,7 @@ loop-k-preserved g c =
     room_spans A p w₁ room₁ (p.d' + n) (c.args.self.now.load.base + row) c.args.offset inside (omega (arith, slot, c.requires)) lo in
     let put = c.add_at.ensures inv.0 spans in (
       put.0,
-      row_more A L p c.args.offset lo w (room_below A p w room (g.R.Rack.bounded c.args.rack.now v)) row c.requires c.args.shares n ln
+      row_more A L p c.args.offset lo w (room_below A p w room (g.R.Rack.bounded c.args.rack.now v)) row c.requires c.args.shares.now n ln
           w₁ (g.R.Rack.meaning c.add_at.new.rack) (c.args.self.now.load.base + row) inv.1 slot (room.whole (p.d' + n) inside) put.1,
     )
 
@@ -53,5 +53,5 @@ returns g c =
     let inv = c.loop-k.invariant v room lo in
     let all : c.loop-k.k ≡ p.r' = omega (arith, c.loop-k-test.false, c.loop-k.auto.k-end) in (
       inv.0,
-      row_all A L p c.args.offset w c.args.row c.args.shares c.loop-k.k (g.R.Rack.meaning c.loop-k.rack) all inv.1,
+      row_all A L p c.args.offset w c.args.row c.args.shares.now c.loop-k.k (g.R.Rack.meaning c.loop-k.rack) all inv.1,
     )

@@ -18,4 +18,4 @@ returns-then-self g c =
     let p = scheme_of x.plan in
     let low : x.home < 14 = omega (arith, home_below (g.F.Field.arithmetic s.field.now) x s.loaded, layout.rows_le x.plan) in
     home_gains p x.group.index (λ (k : ℕ). (g.R.Rack.meaning c.args.rack.now).symbol (p.d' + k) x.group.index c.args.offset)
-    c.if-self.true x.home s.loaded.home_is low c.parities_at.result (c.parities_at.ensures v)
+    c.if-self.true x.home s.loaded.home_is low c.parities_at.new.parities (c.parities_at.ensures v)

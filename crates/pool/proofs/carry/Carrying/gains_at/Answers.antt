@@ -24,7 +24,7 @@ loop-e-preserved g c =
     let p = scheme_of x.plan in
     let w = g.R.Rack.meaning c.args.rack.now in
     gains_more A L p x.group.index (λ (k : ℕ). w.symbol (p.d' + k) x.group.index c.args.offset) (chunks_at p w c.args.offset) c.loop-e.gains
-    c.loop-e.e c.gain_chunk-more.result (c.loop-e.invariant v order) (c.gain_chunk-more.ensures v)
+    c.loop-e.e c.gain_chunk.new.gains (c.loop-e.invariant v order) (c.gain_chunk.ensures v)
 
 pub returns : goal.returns
 returns g c =

@@ -44,8 +44,8 @@ returns-then-is_staged g c =
     let n = c.parities.result in
     let change = c.sub-change.result in
     let shares = c.shares_of-shares.result in
-    let meant = meant_of P A s j v old cell at c.settled-kind.result c.group.result slot n change shares c.settled-kind.ensures c.group.ensures.is
-    (c.parity_slot.ensures c.group.ensures.inside) c.parities.ensures c.sub-change.ensures.is c.shares_of-shares.ensures in
+    let meant = meant_of P A all s j v old cell at c.settled-kind.result c.group.result slot n change c.most_parities-most.result shares c.settled-kind.ensures c.group.ensures.is
+    (c.parity_slot.ensures c.group.ensures.inside) c.parities.ensures c.sub-change.ensures.is c.most_parities-most.ensures.settled c.most_parities-most.ensures.staged c.shares_of-shares.ensures in
     let put = c.put.ensures held.rack_is_valid in
     let w = g.R.Rack.meaning c.put.new.self in
     let added = c.add_parities.ensures put.1
@@ -81,8 +81,8 @@ returns-else-is_staged g c =
     let n = c.parities.result in
     let change = c.sub-change.result in
     let shares = c.shares_of-shares.result in
-    let meant = meant_of P A s j v old cell at c.settled-kind.result c.group.result slot n change shares c.settled-kind.ensures c.group.ensures.is
-    (c.parity_slot.ensures c.group.ensures.inside) c.parities.ensures c.sub-change.ensures.is c.shares_of-shares.ensures in
+    let meant = meant_of P A all s j v old cell at c.settled-kind.result c.group.result slot n change c.most_parities-most.result shares c.settled-kind.ensures c.group.ensures.is
+    (c.parity_slot.ensures c.group.ensures.inside) c.parities.ensures c.sub-change.ensures.is c.most_parities-most.ensures.settled c.most_parities-most.ensures.staged c.shares_of-shares.ensures in
     let put = c.put.ensures held.rack_is_valid in
     let w = g.R.Rack.meaning c.put.new.self in
     let added = c.add_parities.ensures put.1
