@@ -73,8 +73,8 @@ pub no_numbers : (name called : Name) (n : ℕ) (text : List ℕ) (r : Option Co
 no_numbers name called n text r is same none e =
     subst (λ m. Takes m text r) (sym same) (subst (Takes name text) (sym e) (no_command name text (λ g. let k = is g in none k.0 k.1 k.2)))
 
--- what was looked for in a list of all values
-pub found_among : {A : Type 0} (all : List A) (r : Option A) (P : A → Type 0) → ((x : A) → Contains all x) →
+-- what was looked for in a list of all values that it may be
+pub found_among : {A : Type 0} (all : List A) (r : Option A) (P : A → Type 0) → ((x : A) → P x → Contains all x) →
     MatchOption r (AllWithin (λ y. P y → ⊥) all 0 (length all)) (λ x. P x × (i : ℕ) × (i < length all) × HoldsAt (λ y. y ≡ x) all i × AllWithin (λ y. P y → ⊥) all 0 i) → MatchOption r ((x : A) → P x → ⊥) P
 found_among all (Some y) P has h = h.0
-found_among all None P has h = λ x p. let at = has x in h at.0 x zero-le at.1 (subst P (sym at.2) p)
+found_among all None P has h = λ x p. let at = has x p in h at.0 x zero-le at.1 (subst P (sym at.2) p)

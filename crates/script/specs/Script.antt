@@ -113,6 +113,30 @@ of_pools (OnPool c) = true
 of_pools Show = true
 of_pools PoolLabel = true
 
+-- a name of commands of pools alone
+abbrev pub pools_alone : Name → Bool
+pools_alone Name.Plan = false
+pools_alone Name.Map = false
+pools_alone Name.Label = false
+pools_alone Name.Rack = false
+pools_alone Name.Get = false
+pools_alone Name.Put = false
+pools_alone Name.PullModule = false
+pools_alone Name.FitModule = false
+pools_alone Name.Ask = false
+pools_alone Name.Lay = true
+pools_alone Name.Open = true
+pools_alone Name.Read = true
+pools_alone Name.Write = true
+pools_alone Name.Pull = true
+pools_alone Name.Refit = true
+pools_alone Name.Begin = true
+pools_alone Name.Carry = true
+pools_alone Name.Ready = true
+pools_alone Name.Close = true
+pools_alone Name.Drop = true
+pools_alone Name.Show = true
+
 -- a line writes a command of plans, labels and racks
 abbrev pub WritesWithoutPools : List ℕ → Command → Type 0
 WritesWithoutPools line c = Writes line c × (of_pools c ≡ false)

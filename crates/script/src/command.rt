@@ -104,3 +104,36 @@ pub enum Name {
     Drop,
     Show,
 }
+
+impl Name {
+    ghost use Rattle.script.specs.Script.{pools_alone};
+
+    // Whether it is a name of commands of pools alone. A label may be that of a plan, and that of a pool.
+    pub(crate) fn is_of_pools(self) -> bool
+        ensures { result ≡ pools_alone self }
+    {
+        match self {
+            Name::Plan
+            | Name::Map
+            | Name::Label
+            | Name::Rack
+            | Name::Get
+            | Name::Put
+            | Name::PullModule
+            | Name::FitModule
+            | Name::Ask => false,
+            Name::Lay
+            | Name::Open
+            | Name::Read
+            | Name::Write
+            | Name::Pull
+            | Name::Refit
+            | Name::Begin
+            | Name::Carry
+            | Name::Ready
+            | Name::Close
+            | Name::Drop
+            | Name::Show => true,
+        }
+    }
+}

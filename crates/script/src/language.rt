@@ -2,7 +2,7 @@
 ghost use Rattle.std.specs.Prelude.{ℕ, List};
 
 use crate::command::Command;
-use crate::parse::parse;
+use crate::parse::{command_of, parse, split_name};
 
 /// A language of scripts: the lines that write its commands.
 pub trait Language {
@@ -39,6 +39,10 @@ impl Language for WithoutPools {
     ghost writes = { WritesWithoutPools };
 
     fn parse(line: &[u8]) -> Option<Command> {
-        parse(line).filter(|command| !command.is_of_pools())
+        let (name, text) = split_name(line)?;
+        if name.is_of_pools() {
+            return None;
+        }
+        command_of(name, text).filter(|command| !command.is_of_pools())
     }
 }

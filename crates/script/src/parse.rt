@@ -1,6 +1,7 @@
 // The commands of a script, as its lines write them.
 ghost use Rattle.std.specs.Prelude.{◌≡◌, ℕ, List, MatchOption, ◌≢◌};
-ghost use Rattle.script.specs.Script.{Writes, Takes, Understood};
+ghost use Rattle.script.specs.Script.{Writes, Takes, Understood, spelled};
+ghost use Rattle.script.specs.Words.{word, rest};
 
 use crate::command::{Command, FieldKind, Name, RackCall, RackKind};
 use crate::words::{hex_word, is_blank, numbers, split_word};
@@ -18,16 +19,16 @@ trait Spelled: Copy + 'static {
     fn spelling(self) -> &'static [u8]
         ensures { result.now ≡ spelled self };
 
-    // All values of the type.
-    fn all() -> &'static [Self]
-        ensures { (x : Self) → Contains result.now x };
+    // The values that a word may spell: all that it does are among them.
+    fn among(word: &[u8]) -> &'static [Self]
+        ensures { (x : Self) → word.now ≡ spelled x → Contains result.now x };
 }
 
 // The value that a word spells.
 fn spelled_by<T: Spelled + 'static>(word: &[u8]) -> Option<T>
     ensures { MatchOption result ((x : T) → word.now ≢ T.spelled x) (λ x. word.now ≡ T.spelled x) }
 {
-    T::all()
+    T::among(word)
         .iter()
         .copied()
         .find(|value| value.spelling() == word)
@@ -64,30 +65,24 @@ impl Spelled for Name {
         }
     }
 
-    fn all() -> &'static [Name] {
-        &[
-            Name::Plan,
-            Name::Map,
-            Name::Label,
-            Name::Rack,
-            Name::Get,
-            Name::Put,
-            Name::PullModule,
-            Name::FitModule,
-            Name::Ask,
-            Name::Lay,
-            Name::Open,
-            Name::Read,
-            Name::Write,
-            Name::Pull,
-            Name::Refit,
-            Name::Begin,
-            Name::Carry,
-            Name::Ready,
-            Name::Close,
-            Name::Drop,
-            Name::Show,
-        ]
+    // By the first byte, so that a word is compared with few names.
+    fn among(word: &[u8]) -> &'static [Name] {
+        match word.first() {
+            Some(b'a') => &[Name::Ask],
+            Some(b'b') => &[Name::Begin],
+            Some(b'c') => &[Name::Carry, Name::Close],
+            Some(b'd') => &[Name::Drop],
+            Some(b'f') => &[Name::FitModule],
+            Some(b'g') => &[Name::Get],
+            Some(b'l') => &[Name::Label, Name::Lay],
+            Some(b'm') => &[Name::Map],
+            Some(b'o') => &[Name::Open],
+            Some(b'p') => &[Name::Plan, Name::Put, Name::Pull, Name::PullModule],
+            Some(b'r') => &[Name::Rack, Name::Read, Name::Ready, Name::Refit],
+            Some(b's') => &[Name::Show],
+            Some(b'w') => &[Name::Write],
+            _ => &[],
+        }
     }
 }
 
@@ -103,7 +98,7 @@ impl Spelled for RackKind {
         }
     }
 
-    fn all() -> &'static [RackKind] {
+    fn among(_word: &[u8]) -> &'static [RackKind] {
         &[RackKind::Flat, RackKind::Turning]
     }
 }
@@ -121,7 +116,7 @@ impl Spelled for FieldKind {
         }
     }
 
-    fn all() -> &'static [FieldKind] {
+    fn among(_word: &[u8]) -> &'static [FieldKind] {
         &[FieldKind::Byte, FieldKind::Nibble, FieldKind::Prime]
     }
 }
@@ -184,7 +179,7 @@ fn open_command(text: &[u8]) -> Option<Command>
 
 // The command of a name that a text writes the arguments of.
 // An array is taken apart by `let` in each arm: of a closure that takes one by a pattern, as in `map`, the check finds no contract.
-fn command_of(name: Name, text: &[u8]) -> Option<Command>
+pub(crate) fn command_of(name: Name, text: &[u8]) -> Option<Command>
     ensures { Takes name text.now result }
 {
     match name {
@@ -263,10 +258,19 @@ fn command_of(name: Name, text: &[u8]) -> Option<Command>
     }
 }
 
+// The name that a line begins with, and what stands after it.
+pub(crate) fn split_name(line: &[u8]) -> Option<(Name, &[u8])>
+    ensures { MatchOption result ((n : Name) → word line.now ≢ spelled n) (λ r. (word line.now ≡ spelled r.0) × (r.1.now ≡ rest line.now)) }
+{
+    let (word, rest) = split_word(line);
+    let name = spelled_by(word)?;
+    Some((name, rest))
+}
+
 /// The command that a line writes.
 pub fn parse(line: &[u8]) -> Option<Command>
     ensures { Understood Writes line.now result }
 {
-    let (word, rest) = split_word(line);
-    command_of(spelled_by(word)?, rest)
+    let (name, rest) = split_name(line)?;
+    command_of(name, rest)
 }

@@ -35,8 +35,11 @@ fn number(word: &[u8]) -> Option<u16>
     }
     let mut n: u16 = 0;
     for c in word {
-        let digit = char::from(*c).to_digit(10)? as u16;
-        n = n.checked_mul(10)?.checked_add(digit)?;
+        if !c.is_ascii_digit() {
+            return None;
+        }
+        let more = u32::from(n) * 10 + u32::from(*c - b'0');
+        n = u16::try_from(more).ok()?;
     }
     Some(n)
 }
@@ -68,7 +71,7 @@ pub(crate) fn numbers<const N: usize>(text: &[u8]) -> Option<[u16; N]>
 fn is_hex(word: &[u8]) -> bool
     ensures { Decides result (AllDigits 16 word.now) }
 {
-    word.iter().all(|c| char::from(*c).is_digit(16))
+    word.iter().all(|c| c.is_ascii_hexdigit())
 }
 
 // The value of a hexadecimal digit.
