@@ -1,5 +1,5 @@
 -- Calls that stand in a row, and what is printed for them. Assumes nothing.
-use Rattle.std.proofs.Common.{◌≡◌, ℕ, suc, List, [], ◌∷◌, ◌++◌, length, take, None, codes, Option, sym, refl, ap, ◌∙◌, subst, inl, append-nil, arith, take_all}
+use Rattle.std.proofs.Common.{◌≡◌, ℕ, suc, List, [], ◌∷◌, ◌++◌, length, take, codes, Option, sym, refl, ap, ◌∙◌, subst, inl, append-nil, arith, take_all}
 use lib.Seq.{take-append-le}
 use Rattle.field.specs.Arithmetic.{Arithmetic}
 use Rattle.layout.specs.declared.plan.Plan.{Plan}
@@ -11,12 +11,11 @@ use Rattle.pool.specs.Standing.{Standing}
 use Rattle.pool.specs.Law.{Runs, Plays}
 use Rattle.script.specs.declared.command.Command.{Command}
 use Rattle.script.specs.declared.command.Command.TheVariants.{OnPool}
-use Rattle.script.specs.Script.{Understood}
-use Rattle.player.specs.Holding.{call_in}
 use Rattle.player.specs.Shows.{answer_text}
 use Rattle.player.specs.Answers.{State, state, pooled, Answers}
 use Rattle.player.specs.Sessions.{kept, Sofar, Goes}
-use Rattle.player.specs.Rows.{CallsIn, row_text, ReadsNext, Gathered}
+use Rattle.player.specs.declared.rows.ReadLine.{ReadLine}
+use Rattle.player.specs.Rows.{CallsIn, row_text, Gathered}
 use Rattle.player.proofs.Printing.{AllKept, all_kept, answered, line_joined}
 
 -- what follows the book does what its rule says
@@ -52,14 +51,6 @@ module _ (writes : List ℕ → Command → Type 0) where
   calls_many (l ∷ part) [] h = absurd h
   calls_many (l ∷ part) (c ∷ cs) h = ap suc (calls_many part cs h.1)
 
-  -- after the last line nothing is read
-  pub read_none : (left : List (List ℕ)) → left ≡ [] → ReadsNext writes left None
-  read_none left e = subst (λ l. ReadsNext writes l None) (sym e) tt
-
-  -- what the next line is read as
-  pub read_next : (line : List ℕ) (rest left : List (List ℕ)) (next : Option Command) → left ≡ line ∷ rest → ReadsNext writes left next → Understood writes line next × (call_in next ≡ None)
-  read_next line rest left next e h = let R : List (List ℕ) → Type 0 = λ l. ReadsNext writes l next in subst R e h
-
   -- the lines of a row are printed with the answers of their calls
   module _ (A : Arithmetic) (p : Plan) (plan : Option Plan) (b : State) (all rest : List (List ℕ)) where
     pub row_printed : (part : List (List ℕ)) (cs : List Call) (told : List Answer) (s e : Standing) (out : List ℕ) → AllKept (part ++ rest) → CallsIn writes part cs → Plays A (scheme_of p) s cs told e →
@@ -79,7 +70,7 @@ module _ (writes : List ℕ → Command → Type 0) where
         (row_printed part cs told t e (out ++ next) keeps.1 calls.1 plays.2 stepped)
 
   -- the calls of a row are played
-  pub row_goes : (A : Arithmetic) (p : Plan) (plan : Option Plan) (ls left : List (List ℕ)) (next : Option Command) (calls : List Call) (told : List Answer) (s e : Standing) (out after : List ℕ) →
+  pub row_goes : (A : Arithmetic) (p : Plan) (plan : Option Plan) (ls left : List (List ℕ)) (next : Option ReadLine) (calls : List Call) (told : List Answer) (s e : Standing) (out after : List ℕ) →
       (x : Gathered writes (kept ls) calls next) → Plays A (scheme_of p) s calls told e → (left ≡ x.rest) × (after ≡ out ++ row_text x.part told) →
       Goes writes (state plan (pooled A p s)) (kept ls) out (state plan (pooled A p e)) left after
   row_goes A p plan ls left next calls told s e out after x plays print b all sofar =

@@ -14,7 +14,8 @@ use Rattle.player.specs.Answers.{Memory, nothing, bare, pooled, rack_in, State, 
 use Rattle.player.specs.Holding.{memory_by, started_on}
 use Rattle.player.specs.Transcripts.{passed_over, Printed}
 use Rattle.player.specs.Transcripts.{lines}
-use Rattle.player.specs.Sessions.{kept, IsNextLine, Sofar, Goes, lines_left, Plays, Ends, next_memory, Makeable}
+use Rattle.player.specs.Sessions.{kept, Sofar, Goes, lines_left, Plays, Ends, next_memory, Makeable}
+use Rattle.player.specs.declared.rows.ReadLine.{ReadLine}
 use Rattle.player.specs.Rows.{row_text, ReadsNext, Gathered}
 use Rattle.player.specs.declared.session.Session.{Session}
 use Rattle.coding.specs.Schemes.{scheme_of}
@@ -71,16 +72,16 @@ module _ {L : Type 0} (writes : List ℕ → Command → Type 0) (b : Session L)
   plays_same e m m' same f = subst (λ x. Plays writes b m0 e x) same f
 
   -- one line more
-  pub line_played : (s e : Session L) (m m' : Memory) (line rest text : List ℕ) (command : Option Command) (after : Option Plan) → Plays writes b m0 s m → IsNextLine s.left.now line rest → Understood writes line command →
+  pub line_played : (s e : Session L) (m m' : Memory) (line rest text : List ℕ) (command : Option Command) (after : Option Plan) → Plays writes b m0 s m → lines_left s ≡ line ∷ kept (lines rest) → Understood writes line command →
       Replies (state s.plan m) command (state after m') text → e.plan ≡ after → e.left.now ≡ rest → e.out.items ≡ s.out.items ++ (line ++ (codes ": " ++ (text ++ 10 ∷ []))) → Plays writes b m0 e m'
   line_played s e m m' line rest text command after f next read says plan left out =
       subst (λ l. Goes writes (state b.plan m0) (lines_left b) b.out.items (state e.plan m') (kept (lines l)) e.out.items) (sym left)
-      (goes_answer writes (state b.plan m0) (lines_left b) b.out.items (state s.plan m) (state e.plan m') (lines_left s) (kept (lines rest)) line text s.out.items e.out.items f next.0
-      (kept_head (lines s.left.now) line (kept (lines rest)) next.0)
+      (goes_answer writes (state b.plan m0) (lines_left b) b.out.items (state s.plan m) (state e.plan m') (lines_left s) (kept (lines rest)) line text s.out.items e.out.items f next
+      (kept_head (lines s.left.now) line (kept (lines rest)) next)
       (replied writes line command (state s.plan m) (state e.plan m') text read (subst (λ p. Replies (state s.plan m) command (state p m') text) (sym plan) says)) out)
 
 -- the calls of a row are played
-pub row_played : {L : Type 0} (writes : List ℕ → Command → Type 0) (A : Arithmetic) (p : Plan) (b e : Session L) (next : Option Command) (calls : List Call) (told : List Answer) (s t : Standing) →
+pub row_played : {L : Type 0} (writes : List ℕ → Command → Type 0) (A : Arithmetic) (p : Plan) (b e : Session L) (next : Option ReadLine) (calls : List Call) (told : List Answer) (s t : Standing) →
     Gathered writes (lines_left b) calls next → law.Plays A (scheme_of p) s calls told t →
     ((part rest : List (List ℕ)) → length part ≡ length told → lines_left b ≡ part ++ rest → (lines_left e ≡ rest) × (e.out.items ≡ b.out.items ++ row_text part told)) → e.plan ≡ b.plan →
     Plays writes b (pooled A p s) e (pooled A p t) × ReadsNext writes (lines_left e) next

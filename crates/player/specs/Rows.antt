@@ -1,5 +1,5 @@
 -- Calls on a pool that stand in a row of a script. Assumes nothing.
-use Rattle.std.specs.Prelude.{◌≡◌, ℕ, List, [], ◌∷◌, ◌++◌, None, codes, Option}
+use Rattle.std.specs.Prelude.{◌≡◌, ℕ, List, [], ◌∷◌, ◌++◌, Some, None, codes, Option}
 use Rattle.pool.specs.declared.kinds.Call.{Call}
 use Rattle.pool.specs.Replies.{Answer}
 use Rattle.script.specs.declared.command.Command.{Command}
@@ -7,6 +7,9 @@ use Rattle.script.specs.declared.command.Command.TheVariants.{OnPool}
 use Rattle.script.specs.Script.{Understood}
 use Rattle.player.specs.Shows.{answer_text}
 use Rattle.player.specs.Holding.{call_in}
+use Rattle.player.specs.declared.rows.ReadLine.{ReadLine}
+use Rattle.player.specs.Sessions.{kept}
+use Rattle.player.specs.Transcripts.{lines}
 
 -- the lines, each with its answer
 abbrev pub row_text : List (List ℕ) → List Answer → List ℕ
@@ -23,13 +26,13 @@ module _ (writes : List ℕ → Command → Type 0) where
   CallsIn (line ∷ rest) [] = ⊥
   CallsIn (line ∷ rest) (c ∷ cs) = writes line (OnPool c) × CallsIn rest cs
 
-  -- what the first line that is left is read as: no call on a pool
-  abbrev pub ReadsNext : List (List ℕ) → Option Command → Type 0
-  ReadsNext [] next = Unit {0}
-  ReadsNext (line ∷ rest) next = Understood writes line next × (call_in next ≡ None)
+  -- what is read of the lines that are left: of the first what it writes, which is no call on a pool; nothing where none is left
+  abbrev pub ReadsNext : List (List ℕ) → Option ReadLine → Type 0
+  ReadsNext left None = left ≡ []
+  ReadsNext left (Some next) = (left ≡ next.line.now ∷ kept (lines next.rest.now)) × Understood writes next.line.now next.command × (call_in next.command ≡ None)
 
   -- the calls that stand in a row at the front of some lines, and what comes after them
-  pub record Gathered (lines : List (List ℕ)) (calls : List Call) (next : Option Command) : Type 0 where
+  pub record Gathered (lines : List (List ℕ)) (calls : List Call) (next : Option ReadLine) : Type 0 where
     pub part : List (List ℕ)
     pub rest : List (List ℕ)
     pub are : lines ≡ part ++ rest

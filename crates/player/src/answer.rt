@@ -111,7 +111,7 @@ fn respond<R: Rack>(
     match command {
         Command::OnRack(call) => {
             let outcome = racks::on_rack_in_use(rack, call);
-            Ok(Response::only(format!(in heap; "{outcome}")?))
+            Ok(Response::only(outcome.text(heap)?))
         }
         Command::OnPool(_) | Command::Show | Command::PoolLabel => pools::say(heap, "no pool"),
         _ => respond_alike(heap, plan, rack.as_ref(), command),

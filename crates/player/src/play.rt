@@ -10,7 +10,7 @@ ghost use Rattle.std.specs.Option.{option_map};
 use crate::answer::{answer, answer_pooled};
 use crate::lines::next_line;
 use crate::request::{By, RackRequest, Request, Response, Start};
-use crate::rows::{Row, gather, lay};
+use crate::rows::{ReadLine, Row, gather, lay};
 use crate::session::Session;
 use field::{ByteField, Field, NibbleField, PrimeField};
 use layout::plan::Plan;
@@ -53,12 +53,21 @@ impl<L: Language> Session<'_, L> {
     {
         let mut pool = pool;
         loop {
-            let next = self.play_row(&mut pool)?;
-            let Some((line, rest)) = next_line(self.left) else {
+            let Some(next) = self.play_row(&mut pool)? else {
                 return Ok((None, pool.into_rack()));
             };
+            let ReadLine {
+                line,
+                rest,
+                command,
+            } = next;
             self.left = rest;
-            let Response { text, request } = answer_pooled(self.heap, &mut self.plan, &pool, next)?;
+            let Response { text, request } = answer_pooled(
+                self.heap,
+                &mut self.plan,
+                &pool,
+                command,
+            )?;
             self.print(line, text.as_str())?;
             if request.is_some() {
                 return Ok((request, pool.into_rack()));

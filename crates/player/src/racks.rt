@@ -6,6 +6,7 @@ ghost use Rattle.std.specs.Option.{option_map};
 
 use rack::Rack;
 use script::command::RackCall;
+use std::alloc::{AllocError, Global};
 use std::fmt;
 
 /// What a call on the rack came to.
@@ -47,6 +48,35 @@ pub fn on_rack_in_use<R: Rack>(rack: &mut Option<R>, call: RackCall) -> Outcome
     }
 }
 
+impl Outcome {
+    ghost use Rattle.std.specs.Prelude.{MatchResult, ◌++◌, IfOk, codes, decimal, string_bytes};
+
+    // The words that say it, or else the symbol that is said.
+    fn words(self) -> Result<&'static str, u16>
+        ensures { MatchResult result (λ words. words.now ≡ outcome_text self) (λ symbol. codes "ok " ++ decimal symbol ≡ outcome_text self) }
+    {
+        match self {
+            Outcome::Got(Some(symbol)) => Err(symbol),
+            Outcome::Got(None) => Ok("nothing"),
+            Outcome::Done(true) => Ok("done"),
+            Outcome::Done(false) => Ok("nothing done"),
+            Outcome::Fitted(true) => Ok("fitted"),
+            Outcome::Fitted(false) => Ok("out"),
+            Outcome::NoRack => Ok("no rack"),
+        }
+    }
+
+    /// The text that says it. Words are copied at their length, where `format!` would make room step by step.
+    pub fn text(self, heap: Global) -> Result<String, AllocError>
+        ensures { IfOk result (λ text. string_bytes text ≡ outcome_text self) }
+    {
+        match self.words() {
+            Ok(words) => String::from_str(heap, words),
+            Err(_) => format!(in heap; "{self}"),
+        }
+    }
+}
+
 impl fmt::Display for Outcome {
     ghost use Rattle.std.specs.Prelude.{Some};
     ghost use Rattle.player.specs.Holding.{outcome_text};
@@ -54,14 +84,9 @@ impl fmt::Display for Outcome {
     ghost output = { λ o. Some (outcome_text o) };
 
     fn fmt<W: fmt::Write>(&self, f: &mut fmt::Formatter<W>) -> fmt::Result {
-        match *self {
-            Outcome::Got(Some(symbol)) => write!(f, "ok {symbol}"),
-            Outcome::Got(None) => f.write_str("nothing"),
-            Outcome::Done(true) => f.write_str("done"),
-            Outcome::Done(false) => f.write_str("nothing done"),
-            Outcome::Fitted(true) => f.write_str("fitted"),
-            Outcome::Fitted(false) => f.write_str("out"),
-            Outcome::NoRack => f.write_str("no rack"),
+        match self.words() {
+            Ok(words) => f.write_str(words),
+            Err(symbol) => write!(f, "ok {symbol}"),
         }
     }
 }

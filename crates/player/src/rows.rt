@@ -1,5 +1,5 @@
 // Calls on a pool that stand in a row: they are played in one go.
-ghost use Rattle.std.specs.Prelude.{◌≡◌, ℕ, ◌≤◌, List, ◌++◌, length, IfOk, None, OnOk};
+ghost use Rattle.std.specs.Prelude.{◌≡◌, ℕ, ◌<◌, ◌≤◌, List, ◌++◌, length, IfOk, IfSome, None, OnOk};
 ghost use Rattle.coding.specs.Schemes.{scheme_of};
 ghost use Rattle.pool.specs.Law as law;
 ghost use Rattle.pool.specs.Openings.{lay_refusal, laid_over};
@@ -22,24 +22,44 @@ use script::command::Command;
 use script::language::Language;
 use std::alloc::{AllocError, Global};
 
+/// A line that is read, and is no call on a pool.
+#[derive(Clone, Copy)]
+pub struct ReadLine<'s> {
+    pub line: &'s [u8],
+    /// what stands after it
+    pub rest: &'s [u8],
+    /// the command that it writes, if it writes one
+    pub command: Option<Command>,
+}
+
 /// Calls that stand in a row.
 #[derive(Drop)]
-pub struct Row {
+pub struct Row<'s> {
     pub calls: Vec<Call>,
-    /// the command of the line after them
-    pub next: Option<Command>,
+    /// the line after them, if there is one
+    pub next: Option<ReadLine<'s>>,
 }
 
 /// The calls on a pool that stand in a row at the front of a text.
-pub fn gather<L: Language>(heap: Global, text: &[u8]) -> Result<Row, AllocError>
-    ensures { IfOk result (λ row. Gathered L.writes (kept (lines text.now)) row.calls.items row.next) }
+pub fn gather<'s, L: Language>(heap: Global, text: &'s [u8]) -> Result<Row<'s>, AllocError>
+    ensures { IfOk result (λ row. Gathered L.writes (kept (lines text.now)) row.calls.items row.next × IfSome row.next (λ n. length n.rest.now < length text.now)) }
 {
     let mut calls = Vec::new(heap);
     let mut left = text;
     while let Some((line, rest)) = next_line(left) {
         match L::parse(line) {
             Some(Command::OnPool(call)) => calls.push(call)?,
-            next => return Ok(Row { calls, next }),
+            command => {
+                let next = ReadLine {
+                    line,
+                    rest,
+                    command,
+                };
+                return Ok(Row {
+                    calls,
+                    next: Some(next),
+                });
+            }
         }
         left = rest;
     }
@@ -80,7 +100,7 @@ pub fn lay<F: Field, R: Rack>(
     lay_and_replay(plan, field, rack, calls, told)
 }
 
-impl<L: Language> Session<'_, L> {
+impl<'s, L: Language> Session<'s, L> {
     /// Prints the next lines, each with its answer.
     pub fn print_row(&mut self, told: &[Answer]) -> Result<(), AllocError>
         ensures printed { OnOk result ((part rest : List (List ℕ)) → length part ≡ length told.now → lines_left self.old ≡ part ++ rest → (lines_left self.new ≡ rest) × (self.new.out.items ≡ self.old.out.items ++ row_text part told.now)) }
@@ -98,13 +118,13 @@ impl<L: Language> Session<'_, L> {
         Ok(())
     }
 
-    /// Plays the calls that stand in a row, in one go, and gives the command of the line after them.
+    /// Plays the calls that stand in a row, in one go, and gives the line after them.
     pub fn play_row<F: Field, R: Rack>(
         &mut self,
         pool: &mut Pool<F, R>,
-    ) -> Result<Option<Command>, AllocError>
+    ) -> Result<Option<ReadLine<'s>>, AllocError>
         requires { Held F.arithmetic R.valid R.meaning pool.old }
-        ensures played { IfOk result (λ next. Held F.arithmetic R.valid R.meaning pool.new × ReadsNext L.writes (lines_left self.new) next × Plays L.writes self.old (within F.arithmetic R.valid R.meaning pool.old) self.new (within F.arithmetic R.valid R.meaning pool.new)) }
+        ensures played { IfOk result (λ next. Held F.arithmetic R.valid R.meaning pool.new × ReadsNext L.writes (lines_left self.new) next × IfSome next (λ n. length n.rest.now < length self.old.left.now) × Plays L.writes self.old (within F.arithmetic R.valid R.meaning pool.old) self.new (within F.arithmetic R.valid R.meaning pool.new)) }
         ensures falls { length self.new.left.now ≤ length self.old.left.now }
     {
         let Row { calls, next } = gather::<L>(self.heap, self.left)?;

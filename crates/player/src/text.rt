@@ -1,8 +1,9 @@
 // The texts of the answers.
-ghost use Rattle.std.specs.Prelude.{◌≡◌, ◌<◌, ◌++◌, IfOk, Some, string_bytes, codes};
+ghost use Rattle.std.specs.Prelude.{◌≡◌, ◌<◌, [], ◌∷◌, ◌++◌, IfOk, Some, string_bytes, codes};
 ghost use Rattle.layout.specs.Labels.{label_of};
 ghost use Rattle.layout.specs.Placing.{rows_of, stripes_of, chunk_at, home_of};
 ghost use Rattle.player.specs.Texts.{hex_text, row_text, counts_text, map_text};
+ghost use Rattle.std.specs.Char.{digit_char};
 ghost use Rattle.std.specs.Fmt.{DisplaysOnOk};
 
 use layout::label::{LABEL_BYTES, Label};
@@ -82,12 +83,40 @@ impl fmt::Display for Map<'_> {
     }
 }
 
+// A hexadecimal digit. By a table: `{byte:02x}` fills to a width too, and that takes longer than all else that a line does.
+fn hex_digit(digit: u8) -> &'static str
+    requires { digit < 16 }
+    ensures { result.now ≡ digit_char digit ∷ [] }
+{
+    match digit {
+        0 => "0",
+        1 => "1",
+        2 => "2",
+        3 => "3",
+        4 => "4",
+        5 => "5",
+        6 => "6",
+        7 => "7",
+        8 => "8",
+        9 => "9",
+        10 => "a",
+        11 => "b",
+        12 => "c",
+        13 => "d",
+        14 => "e",
+        15 => "f",
+        _ => unreachable!(),
+    }
+}
+
 // Bytes, each as two hexadecimal digits after a space.
 fn write_bytes<W: fmt::Write>(bytes: &[u8], f: &mut fmt::Formatter<W>) -> fmt::Result
     ensures { DisplaysOnOk W.write_str_gives f.old result (Some (hex_text bytes.now)) f.new }
 {
     for byte in bytes {
-        write!(f, " {byte:02x}")?;
+        f.write_str(" ")?;
+        f.write_str(hex_digit(*byte / 16))?;
+        f.write_str(hex_digit(*byte % 16))?;
     }
     Ok(())
 }

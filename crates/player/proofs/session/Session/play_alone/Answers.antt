@@ -18,7 +18,7 @@ returns-then-is_some g c =
       r.2,
       ends_some a.request c.args.self.now c.print.new.self (sym c.is_some.ensures ∙ c.if-is_some.true) (omega (arith, ap length p.left, h.1, inv.falls)),
       line_played g.L.Language.writes c.args.self.now (alone (option_map g.R.Rack.meaning c.args.rack.now)) c.loop-line.self c.print.new.self (alone (option_map g.R.Rack.meaning c.loop-line.rack))
-          (memory_by a.request (alone (option_map g.R.Rack.meaning c.answer.new.rack))) line c.in-Some.rest.now (string_bytes a.text) c.parse.result c.answer.new.plan inv.plays h c.parse.ensures r.0 p.plan p.left
+          (memory_by a.request (alone (option_map g.R.Rack.meaning c.answer.new.rack))) line c.in-Some.rest.now (string_bytes a.text) c.parse.result c.answer.new.plan inv.plays h.0 c.parse.ensures r.0 p.plan p.left
           (p.out ∙ ap (λ t. vec_items c.loop-line.self.out ++ (line ++ (codes ": " ++ (t ++ 10 ∷ [])))) c.as_str.ensures.value),
     )
 
@@ -36,7 +36,7 @@ loop-line-preserved g c =
       falls = omega (arith, ap length p.left, h.1, inv.falls);
       ready = r.1;
       plays = line_played g.L.Language.writes c.args.self.now (alone (option_map g.R.Rack.meaning c.args.rack.now)) c.loop-line.self c.print.new.self m m' line c.in-Some.rest.now (string_bytes a.text) c.parse.result c.answer.new.plan
-          inv.plays h c.parse.ensures
+          inv.plays h.0 c.parse.ensures
           (subst (λ x. Replies (state c.loop-line.self.plan m) c.parse.result (state c.answer.new.plan x) (string_bytes a.text)) (same_memory a.request m' (sym c.is_some.ensures ∙ c.if-is_some.false)) r.0) p.plan p.left
           (p.out ∙ ap (λ t. vec_items c.loop-line.self.out ++ (line ++ (codes ": " ++ (t ++ 10 ∷ [])))) c.as_str.ensures.value);
     }

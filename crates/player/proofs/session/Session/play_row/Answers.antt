@@ -19,9 +19,10 @@ returns-clause-played g c =
     let told = c.as_slice-2.result.now in
     let plays : law.Plays A (scheme_of p) s (vec_items row.calls) told e =
     subst (λ cs. law.Plays A (scheme_of p) s cs told e) c.as_slice.ensures.value (subst (λ xs. law.Plays A (scheme_of p) s c.as_slice.result.now xs e) (sym c.as_slice-2.ensures.value) h.3) in
-    let y = row_played W A p c.args.self.now c.print_row.new.self row.next (vec_items row.calls) told s e c.in_ok-calls.ensures plays c.in_ok-print_row.ensures.printed c.print_row.ensures.plan in (
+    let y = row_played W A p c.args.self.now c.print_row.new.self row.next (vec_items row.calls) told s e c.in_ok-calls.ensures.0 plays c.in_ok-print_row.ensures.printed c.print_row.ensures.plan in (
       h.0,
       y.1,
+      c.in_ok-calls.ensures.1,
       plays_same W c.args.self.now (within g.F.Field.arithmetic g.R.Rack.valid g.R.Rack.meaning c.args.pool.now) c.print_row.new.self (pooled A p e) (within g.F.Field.arithmetic g.R.Rack.valid g.R.Rack.meaning c.replay.new.pool)
           (sym (same_pool (g.F.Field.arithmetic c.replay.new.pool.field) A c.replay.new.pool.plan p e (ap g.F.Field.arithmetic h.2) h.1)) y.0,
     )
