@@ -1,11 +1,11 @@
 -- What a change of what lies at the places, or of a flag, does to the meaning.
-use Rattle.std.proofs.Common.{◌≡◌, ℕ, ◌+◌, ◌*◌, ◌/◌, ◌%◌, ◌<◌, ◌≤◌, Bool, true, false, cond, not, ◌&&◌, eqb, ltb, ◌≢◌, List, length, get_or, set, Some, None, sym, refl, ap, ◌∙◌, subst, ⊎_elim, arith, length-set, get_or-set_other, get_or-set_same}
+use Rattle.std.proofs.Common.{◌≡◌, ℕ, ◌+◌, ◌*◌, ◌/◌, ◌%◌, ◌<◌, ◌≤◌, Bool, true, false, cond, not, ◌&&◌, eqb, ltb, ◌≢◌, length, get_or, set, Some, None, sym, refl, ap, ◌∙◌, subst, ⊎_elim, arith, length-set, get_or-set_other, get_or-set_same}
 use lib.Arith.{digits_lt, digits_div, digits_mod}
 use Rattle.std.proofs.lemmas.Bool.{lt-ltb, ltb-true, eqb-true, eq-eqb, ne_eqb, and_parts, and_from, cond-true, cond-false, cases_eq, not-true, and_left, le-ltb}
 use Rattle.std.proofs.lemmas.Bool.Decides.{nat_tests}
 use Rattle.rack.specs.declared.size.Size.{Size}
 use Rattle.rack.specs.declared.shape.Shape.{Shape}
-use Rattle.rack.specs.Meaning.{Meaning, holds, symbol_at, takes, stored, flagged, pulls, fits, Pulls, Fits}
+use Rattle.rack.specs.Meaning.{Meaning, holds, takes, stored, flagged, pulls, fits, Pulls, Fits}
 use Rattle.rack.specs.Shaped.{marked, is_marked, is_unlike}
 use Rattle.rack.specs.Laid.{low, inside, laid, fair, Fair, unless}
 use Rattle.layout.specs.declared.refusal.Refusal.TheVariants.{UnfitMemory}

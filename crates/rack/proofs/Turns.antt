@@ -32,6 +32,11 @@ pages_apart p q span n =
     above : q ≤ p → q + 1 ≤ p
     above h = omega arith
 
+-- the cells of a page lie outside those of another
+pub outside_page : (p q span k : ℕ) → p ≢ q → k < span → (p * span + k < q * span) ⊎ (q * span + span ≤ p * span + k)
+outside_page p q span k n h =
+    ⊎_elim (λ (e : p * span + span ≤ q * span). inl (omega arith)) (λ (e : q * span + span ≤ p * span). inr (omega arith)) (pages_apart p q span n)
+
 -- the test that each page stands once, and the facts
 named_decides : (map : List ℕ) (p k : ℕ) → Decides (named map p k) ((j : ℕ) × (j < k) × (get_or map j 0 ≡ p))
 named_decides map p k =
