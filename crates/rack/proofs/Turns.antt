@@ -251,10 +251,7 @@ module _ (q span : ℕ) (xs ys : List ℕ)
     cleared_zero p o e h = zero (p * span + o) (omega (arith, ap (λ x. x * span) e)) (omega (arith, ap (λ x. x * span) e))
 
     pub cleared_other : (p o : ℕ) → p ≢ q → o < span → get_or ys (p * span + o) 0 ≡ get_or xs (p * span + o) 0
-    cleared_other p o n h =
-        ⊎_elim (λ (e : p * span + span ≤ q * span). under (p * span + o) (omega arith))
-        (λ (e : q * span + span ≤ p * span). over (p * span + o) (omega arith))
-        (pages_apart p q span n)
+    cleared_other p o n h = ⊎_elim (under (p * span + o)) (over (p * span + o)) (outside_page p q span o n h)
 
 -- entries from the first of a module up to that of the next
 pub pages_blanked : (size : Size) (m first end : ℕ) (map cells cells' : List ℕ) → first ≡ m * size.slots + 0 → end ≡ m * size.slots + size.slots
