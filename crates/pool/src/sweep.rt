@@ -6,8 +6,8 @@ ghost use Rattle.pool.specs.Openings.{why_not};
 ghost use Rattle.layout.specs.declared.refusal.Refusal.TheVariants.{ModuleOut};
 
 use layout::refusal::Refusal;
-use rack::clear_slot;
 use rack::rack::Rack;
+use rack::try_clear_slot;
 
 /// Whether each of the first modules is fitted; else the lowest that is out refuses.
 pub(crate) fn all_fitted<R: Rack>(rack: &R, modules: u16) -> Result<(), Refusal>
@@ -27,13 +27,13 @@ fn lowest_out<R: Rack>(rack: &R, modules: u16) -> Option<u16>
 }
 
 /// Puts 0 at the offsets below `until` of some slots of a module.
-// Inlined, as `clear_slot` is, and for the same reason.
+// Inlined, as `try_clear_slot` is, and for the same reason.
 #[inline(always)]
 fn clear_slots<R: Rack>(rack: &mut R, module: u16, first: u16, last: u16, until: u16)
     ensures { R.valid rack.old → Blocked «module» («module» + 1) first last until (R.meaning rack.old) → (R.meaning rack.new ≡ zeroed «module» («module» + 1) first last until (R.meaning rack.old)) × R.valid rack.new }
 {
     for slot in first..last {
-        let _ = clear_slot(rack, module, slot, until);
+        let _ = try_clear_slot(rack, module, slot, until);
     }
 }
 

@@ -10,10 +10,12 @@ mod pages;
 pub mod rack;
 mod shape;
 pub mod size;
+mod try_clear;
 pub mod turning;
 
 pub use clear::{clear_slot, symbol};
 pub use flat::FlatRack;
 pub use rack::Rack;
 pub use size::Size;
+pub use try_clear::try_clear_slot;
 pub use turning::TurningRack;
