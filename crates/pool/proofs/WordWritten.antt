@@ -98,14 +98,15 @@ none_fetched w m slot o k = subst (λ (q : Option ℕ). Fetched w m slot o q) (s
 put_elsewhere : (w : Meaning) (at row o v m slot u : ℕ) → m ≢ at → put_at w at row o v m slot u ≡ w.symbol m slot u
 put_elsewhere w at row o v m slot u ne = grind (arith, nat_tests)
 
--- what the steps of a write are given
-pub record Meant (A : Arithmetic) (p : Scheme) (s : Standing) (c v old at row slot n : ℕ) (shares : List ℕ) : Type 0 where
+-- what the steps of a write are given: the shares of as many parities as they add to, or of more
+pub record Meant (A : Arithmetic) (p : Scheme) (s : Standing) (c v old at row slot n most : ℕ) (shares : List ℕ) : Type 0 where
   pub at_is : at ≡ p.column c
   pub row_is : row ≡ p.row c
   pub slot_is : slot ≡ slot_of p (settled s.phase) (group_of p (settled s.phase) c)
   pub count_is : n ≡ parities p (settled s.phase)
-  pub shares_are : (k : ℕ) → k < n → get_or shares k 0 ≡ share_of A (p.x c) (minus A v old) k
-  pub staged_are : true ≡ is_staged s.phase s.carried p c → (k : ℕ) → k < p.r' → get_or shares k 0 ≡ share_of A (p.x c) (minus A v old) k
+  pub enough : n ≤ most
+  pub enough' : true ≡ is_staged s.phase s.carried p c → p.r' ≤ most
+  pub shares_are : (k : ℕ) → k < 4 → k < most → get_or shares k 0 ≡ share_of A (p.x c) (minus A v old) k
 
 spans_changed : (A : Arithmetic) (w : Meaning) (f : ℕ → ℕ → ℕ → ℕ) (end slot o : ℕ) → Spans A w end slot o → Spans A (changed w f) end slot o
 spans_changed A w f end slot o h = record { order_is = h.order_is; modules_fit = h.modules_fit; slot_fits = h.slot_fits; offset_fits = h.offset_fits }
@@ -151,7 +152,7 @@ module _ (A : Arithmetic) (p : Scheme) (sound : Sound A p) (s : Standing) (kept 
       (low_column p.d' m (p.column c) (sound.in_columns c lc)) (counted p.d' m (parities p t)) (counted p.d' m p.r')
       (two_slots slot at (p.row c) p.stripes (settled_low A p sound s.phase s.carried c lc q)) q)
 
-  module _ (at row slot n : ℕ) (shares : List ℕ) (meant : Meant A p s c v old at row slot n shares) where
+  module _ (at row slot n most : ℕ) (shares : List ℕ) (meant : Meant A p s c v old at row slot n most shares) where
     -- the places of the three steps are in the rack
     spans_put : Spans A s.held (at + 1) row o
     spans_put =
@@ -197,13 +198,13 @@ module _ (A : Arithmetic) (p : Scheme) (sound : Sound A p) (s : Standing) (kept 
     after_settled : (w w' : Meaning) → w ≡ Put → w' ≡ changed w (added_to A w p.d' slot n o given) → w' ≡ Settled
     unfolding Put Settled
     after_settled w w' e e' =
-        e' ∙ added_as A w p.d' slot n o given share meant.shares_are
+        e' ∙ added_as A w p.d' slot n o given share (λ k l. meant.shares_are k (omega (arith, meant.count_is, few_parities A p sound (settled s.phase))) (omega (arith, meant.enough)))
         ∙ (λ i. changed (e i) (added_to A (e i) p.d' (meant.slot_is i) (meant.count_is i) o share))
 
     after_staged : true ≡ is_staged s.phase s.carried p c → (w w' : Meaning) → w ≡ Settled → w' ≡ changed w (added_to A w p.d' (p.stripes + row) p.r' o given) → w' ≡ Staged
     unfolding Put Settled Staged
     after_staged q w w' e e' =
-        e' ∙ added_as A w p.d' (p.stripes + row) p.r' o given share (meant.staged_are q)
+        e' ∙ added_as A w p.d' (p.stripes + row) p.r' o given share (λ k l. meant.shares_are k (omega (arith, sound.few')) (omega (arith, meant.enough' q)))
         ∙ (λ i. changed (e i) (added_to A (e i) p.d' (p.stripes + meant.row_is i) p.r' o share))
 
     settled_in : (w : Meaning) → w ≡ Put → Spans A w (p.d' + n) slot o
@@ -248,19 +249,18 @@ module _ (A : Arithmetic) (p : Scheme) (sound : Sound A p) (s : Standing) (kept 
             after_staged q w' w'' (after_settled w w' (after_put_lem w put) added) (more ∙ ap (λ (n : ℕ). changed w' (added_to A w' p.d' (n + row) p.r' o given)) is) ∙ staged_is (sym q)
 
 -- what the code works out of a plan is what is meant
-pub meant_of : (P : Plan) (A : Arithmetic) → Sound A (scheme_of P) → (s : Standing) (c v old : ℕ) (cell : Cell) → CellOf P.d P.d2 c (Some cell) → (t : Kind) (i slot n change most : ℕ) (shares : List ℕ) →
+pub meant_of : (P : Plan) (A : Arithmetic) (s : Standing) (c v old : ℕ) (cell : Cell) → CellOf P.d P.d2 c (Some cell) → (t : Kind) (i slot n change most : ℕ) (shares : List ℕ) →
     t ≡ settled s.phase → i ≡ group_of (scheme_of P) t c → slot ≡ slot_of (scheme_of P) t i → n ≡ parities (scheme_of P) t → change ≡ minus A v old →
     parities (scheme_of P) (settled s.phase) ≤ most → (true ≡ is_staged s.phase s.carried (scheme_of P) c → (scheme_of P).r' ≤ most) →
-    ((k : ℕ) → k < 4 → k < most → get_or shares k 0 ≡ share_of A cell.x change k) → Meant A (scheme_of P) s c v old cell.column cell.row slot n shares
-meant_of P A sound s c v old cell at t i slot n change most shares te ie se ne ce enough enough' are =
-    let few = few_parities A (scheme_of P) sound (settled s.phase) in
+    ((k : ℕ) → k < 4 → k < most → get_or shares k 0 ≡ share_of A cell.x change k) → Meant A (scheme_of P) s c v old cell.column cell.row slot n most shares
+meant_of P A s c v old cell at t i slot n change most shares te ie se ne ce enough enough' are =
     let count : n ≡ parities (scheme_of P) (settled s.phase) = ne ∙ (λ k. parities (scheme_of P) (te k)) in
-    let each : (k : ℕ) → k < 4 → k < most → get_or shares k 0 ≡ share_of A ((scheme_of P).x c) (minus A v old) k = λ k l m. are k l m ∙ (λ i. share_of A (groups.x_is P c cell at i) (ce i) k) in
     record {
       at_is = groups.column_is P c cell at;
       row_is = groups.row_is P c cell at;
       slot_is = se ∙ (λ k. slot_of (scheme_of P) (te k) ((ie ∙ (λ q. group_of (scheme_of P) (te q) c)) k));
       count_is = count;
-      shares_are = λ k l. each k (omega (arith, count, few)) (omega (arith, count, enough));
-      staged_are = λ q k l. each k (omega (arith, sound.few')) (omega (arith, enough' q));
+      enough = omega (arith, count, enough);
+      enough' = enough';
+      shares_are = λ k l m. are k l m ∙ (λ i. share_of A (groups.x_is P c cell at i) (ce i) k);
     }

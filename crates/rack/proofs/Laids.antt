@@ -1,11 +1,11 @@
 -- What a change of what lies at the places, or of a flag, does to the meaning.
-use Rattle.std.proofs.Common.{◌≡◌, ℕ, ◌+◌, ◌*◌, ◌/◌, ◌%◌, ◌<◌, ◌≤◌, Bool, true, false, cond, not, ◌&&◌, eqb, ltb, ◌≢◌, length, get_or, set, Some, None, sym, refl, ap, ◌∙◌, subst, ⊎_elim, arith, length-set, get_or-set_other, get_or-set_same}
+use Rattle.std.proofs.Common.{◌≡◌, ℕ, ◌+◌, ◌*◌, ◌/◌, ◌%◌, ◌<◌, ◌≤◌, Bool, true, false, cond, not, ◌&&◌, eqb, ltb, ◌≢◌, List, length, get_or, set, Some, None, sym, refl, ap, ◌∙◌, subst, ⊎_elim, arith, length-set, get_or-set_other, get_or-set_same}
 use lib.Arith.{digits_lt, digits_div, digits_mod}
 use Rattle.std.proofs.lemmas.Bool.{lt-ltb, ltb-true, eqb-true, eq-eqb, ne_eqb, and_parts, and_from, cond-true, cond-false, cases_eq, not-true, and_left, le-ltb}
 use Rattle.std.proofs.lemmas.Bool.Decides.{nat_tests}
 use Rattle.rack.specs.declared.size.Size.{Size}
 use Rattle.rack.specs.declared.shape.Shape.{Shape}
-use Rattle.rack.specs.Meaning.{Meaning, holds, takes, stored, flagged, pulls, fits, Pulls, Fits}
+use Rattle.rack.specs.Meaning.{Meaning, holds, symbol_at, takes, stored, flagged, pulls, fits, Pulls, Fits}
 use Rattle.rack.specs.Shaped.{marked, is_marked, is_unlike}
 use Rattle.rack.specs.Laid.{low, inside, laid, fair, Fair, unless}
 use Rattle.layout.specs.declared.refusal.Refusal.TheVariants.{UnfitMemory}
@@ -151,6 +151,15 @@ holds_laid {x = x} lies {m = m} {s = s} {o = o} h =
 
 pub takes_laid : {x : Shape} (lies : ℕ → ℕ → ℕ → ℕ) {m s o v : ℕ} → At x m s o → v < x.size.order → takes (laid x lies) m s o v ≡ true
 takes_laid {x = x} lies {v = v} h hv = and_from _ _ (holds_laid lies h) (lt-ltb v x.size.order hv)
+
+-- what a read answers at a place inside
+pub read_laid : {x : Shape} (lies : ℕ → ℕ → ℕ → ℕ) {m s o : ℕ} (cells : List ℕ) (i : ℕ) → At x m s o → i < length cells → get_or cells i 0 ≡ lies m s o
+    → cond (ltb i (length cells)) (Some (low x.size.order (get_or cells i 0))) None ≡ symbol_at (laid x lies) m s o
+read_laid {x = x} lies {m = m} {s = s} {o = o} cells i h l e =
+    cond-true (ltb i (length cells)) (Some (low x.size.order (get_or cells i 0))) None (lt-ltb i (length cells) l)
+    ∙ ap (λ v. Some (low x.size.order v)) e
+    ∙ ap (λ v. Some v) (sym (cond-true (inside x m s o) (low x.size.order (lies m s o)) 0 (inside_from h)))
+    ∙ sym (cond-true (holds (laid x lies) m s o) (Some ((laid x lies).symbol m s o)) None (holds_laid lies h))
 
 -- the flags
 flag_point : (x : Shape) (m m' : ℕ) (b : Bool) → m < x.size.modules → m < length x.on

@@ -43,20 +43,21 @@ returns-then-is_staged g c =
     let slot = c.parity_slot.result in
     let n = c.parities.result in
     let change = c.sub-change.result in
+    let most = c.most_parities-most.result in
     let shares = c.shares_of-shares.result in
-    let meant = meant_of P A all s j v old cell at c.settled-kind.result c.group.result slot n change c.most_parities-most.result shares c.settled-kind.ensures c.group.ensures.is
+    let meant = meant_of P A s j v old cell at c.settled-kind.result c.group.result slot n change most shares c.settled-kind.ensures c.group.ensures.is
     (c.parity_slot.ensures c.group.ensures.inside) c.parities.ensures c.sub-change.ensures.is c.most_parities-most.ensures.settled c.most_parities-most.ensures.staged c.shares_of-shares.ensures in
     let put = c.put.ensures held.rack_is_valid in
     let w = g.R.Rack.meaning c.put.new.self in
     let added = c.add_parities.ensures put.1
-    (settled_spans A p all s kept j o v old at.0 lo lv cell.column cell.row slot n shares meant w put.0.after)
-    (settled_fetched A p all s kept j o v old at.0 lo lv cell.column cell.row slot n shares meant w put.0.after c.args.old.parities looked.2) in
+    (settled_spans A p all s kept j o v old at.0 lo lv cell.column cell.row slot n most shares meant w put.0.after)
+    (settled_fetched A p all s kept j o v old at.0 lo lv cell.column cell.row slot n most shares meant w put.0.after c.args.old.parities looked.2) in
     let w' = g.R.Rack.meaning c.add_parities.new.rack in
     let more = c.add_parities-then-is_staged.ensures added.0
-    (staged_spans A p all s kept j o v old at.0 lo lv cell.column cell.row slot n shares meant w put.0.after w' added.1 c.stripes.result c.stripes.ensures)
+    (staged_spans A p all s kept j o v old at.0 lo lv cell.column cell.row slot n most shares meant w put.0.after w' added.1 c.stripes.result c.stripes.ensures)
     (λ k l. none_fetched (g.R.Rack.meaning c.add_parities.new.rack) (p.d' + k) (c.stripes.result + cell.row) o k) in
     wrote g.F.Field.arithmetic g.R.Rack.valid g.R.Rack.meaning x c.add_parities-then-is_staged.new.rack j o v old more.0
-    (to_pool c.add_parities-then-is_staged.new.rack (written_staged A p all s kept j o v old at.0 lo lv cell.column cell.row slot n shares meant w put.0.after w' added.1
+    (to_pool c.add_parities-then-is_staged.new.rack (written_staged A p all s kept j o v old at.0 lo lv cell.column cell.row slot n most shares meant w put.0.after w' added.1
     (g.R.Rack.meaning c.add_parities-then-is_staged.new.rack) c.stripes.result c.stripes.ensures more.1 c.if-is_staged.ensures))
 
 pub returns-else-is_staged : goal.returns-else-is_staged
@@ -80,14 +81,15 @@ returns-else-is_staged g c =
     let slot = c.parity_slot.result in
     let n = c.parities.result in
     let change = c.sub-change.result in
+    let most = c.most_parities-most.result in
     let shares = c.shares_of-shares.result in
-    let meant = meant_of P A all s j v old cell at c.settled-kind.result c.group.result slot n change c.most_parities-most.result shares c.settled-kind.ensures c.group.ensures.is
+    let meant = meant_of P A s j v old cell at c.settled-kind.result c.group.result slot n change most shares c.settled-kind.ensures c.group.ensures.is
     (c.parity_slot.ensures c.group.ensures.inside) c.parities.ensures c.sub-change.ensures.is c.most_parities-most.ensures.settled c.most_parities-most.ensures.staged c.shares_of-shares.ensures in
     let put = c.put.ensures held.rack_is_valid in
     let w = g.R.Rack.meaning c.put.new.self in
     let added = c.add_parities.ensures put.1
-    (settled_spans A p all s kept j o v old at.0 lo lv cell.column cell.row slot n shares meant w put.0.after)
-    (settled_fetched A p all s kept j o v old at.0 lo lv cell.column cell.row slot n shares meant w put.0.after c.args.old.parities looked.2) in
+    (settled_spans A p all s kept j o v old at.0 lo lv cell.column cell.row slot n most shares meant w put.0.after)
+    (settled_fetched A p all s kept j o v old at.0 lo lv cell.column cell.row slot n most shares meant w put.0.after c.args.old.parities looked.2) in
     wrote g.F.Field.arithmetic g.R.Rack.valid g.R.Rack.meaning x c.add_parities.new.rack j o v old added.0
-    (to_pool c.add_parities.new.rack (written_settled A p all s kept j o v old at.0 lo lv cell.column cell.row slot n shares meant w put.0.after
+    (to_pool c.add_parities.new.rack (written_settled A p all s kept j o v old at.0 lo lv cell.column cell.row slot n most shares meant w put.0.after
     (g.R.Rack.meaning c.add_parities.new.rack) added.1 c.if-is_staged.ensures))
