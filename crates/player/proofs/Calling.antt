@@ -14,8 +14,7 @@ use Rattle.script.specs.declared.command.Command.TheVariants.{OnPool}
 use Rattle.player.specs.Shows.{answer_text}
 use Rattle.player.specs.Answers.{State, state, pooled, Answers}
 use Rattle.player.specs.Sessions.{kept, Sofar, Goes}
-use Rattle.player.specs.declared.rows.ReadLine.{ReadLine}
-use Rattle.player.specs.Rows.{CallsIn, row_text, Gathered}
+use Rattle.player.specs.Rows.{CallsIn, row_text}
 use Rattle.player.proofs.Printing.{AllKept, all_kept, answered, line_joined}
 
 -- what follows the book does what its rule says
@@ -70,13 +69,13 @@ module _ (writes : List ℕ → Command → Type 0) where
         (row_printed part cs told t e (out ++ next) keeps.1 calls.1 plays.2 stepped)
 
   -- the calls of a row are played
-  pub row_goes : (A : Arithmetic) (p : Plan) (plan : Option Plan) (ls left : List (List ℕ)) (next : Option ReadLine) (calls : List Call) (told : List Answer) (s e : Standing) (out after : List ℕ) →
-      (x : Gathered writes (kept ls) calls next) → Plays A (scheme_of p) s calls told e → (left ≡ x.rest) × (after ≡ out ++ row_text x.part told) →
+  pub row_goes : (A : Arithmetic) (p : Plan) (plan : Option Plan) (ls left part rest : List (List ℕ)) (calls : List Call) (told : List Answer) (s e : Standing) (out after : List ℕ) →
+      kept ls ≡ part ++ rest → CallsIn writes part calls → Plays A (scheme_of p) s calls told e → (left ≡ rest) × (after ≡ out ++ row_text part told) →
       Goes writes (state plan (pooled A p s)) (kept ls) out (state plan (pooled A p e)) left after
-  row_goes A p plan ls left next calls told s e out after x plays print b all sofar =
+  row_goes A p plan ls left part rest calls told s e out after are written plays print b all sofar =
       subst (λ o. Sofar writes b all (state plan (pooled A p e)) left o) (sym print.1)
-      (subst (λ l. Sofar writes b all (state plan (pooled A p e)) l (out ++ row_text x.part told)) (sym print.0)
-      (row_printed A p plan b all x.rest x.part calls told s e out (subst AllKept x.are (all_kept ls)) x.written plays (subst (λ l. Sofar writes b all (state plan (pooled A p s)) l out) x.are sofar)))
+      (subst (λ l. Sofar writes b all (state plan (pooled A p e)) l (out ++ row_text part told)) (sym print.0)
+      (row_printed A p plan b all rest part calls told s e out (subst AllKept are (all_kept ls)) written plays (subst (λ l. Sofar writes b all (state plan (pooled A p s)) l out) are sofar)))
 
 -- as many answers as calls
 pub told_many : (A : Arithmetic) (p : Scheme) (s e : Standing) (cs : List Call) (xs : List Answer) → Plays A p s cs xs e → length xs ≡ length cs

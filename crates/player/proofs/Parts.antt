@@ -15,8 +15,7 @@ use Rattle.player.specs.Holding.{memory_by, started_on}
 use Rattle.player.specs.Transcripts.{passed_over, Printed}
 use Rattle.player.specs.Transcripts.{lines}
 use Rattle.player.specs.Sessions.{kept, Sofar, Goes, lines_left, Plays, Ends, next_memory, Makeable}
-use Rattle.player.specs.declared.rows.ReadLine.{ReadLine}
-use Rattle.player.specs.Rows.{row_text, ReadsNext, Gathered}
+use Rattle.player.specs.Rows.{row_text, CallsIn}
 use Rattle.player.specs.declared.session.Session.{Session}
 use Rattle.coding.specs.Schemes.{scheme_of}
 use Rattle.pool.specs.declared.kinds.Call.{Call}
@@ -80,16 +79,16 @@ module _ {L : Type 0} (writes : List ℕ → Command → Type 0) (b : Session L)
       (kept_head (lines s.left.now) line (kept (lines rest)) next)
       (replied writes line command (state s.plan m) (state e.plan m') text read (subst (λ p. Replies (state s.plan m) command (state p m') text) (sym plan) says)) out)
 
--- the calls of a row are played
-pub row_played : {L : Type 0} (writes : List ℕ → Command → Type 0) (A : Arithmetic) (p : Plan) (b e : Session L) (next : Option ReadLine) (calls : List Call) (told : List Answer) (s t : Standing) →
-    Gathered writes (lines_left b) calls next → law.Plays A (scheme_of p) s calls told t →
+-- the calls of a row are played, and the lines after it are left
+pub row_played : {L : Type 0} (writes : List ℕ → Command → Type 0) (A : Arithmetic) (p : Plan) (b e : Session L) (part rest : List (List ℕ)) (calls : List Call) (told : List Answer) (s t : Standing) →
+    lines_left b ≡ part ++ rest → CallsIn writes part calls → law.Plays A (scheme_of p) s calls told t →
     ((part rest : List (List ℕ)) → length part ≡ length told → lines_left b ≡ part ++ rest → (lines_left e ≡ rest) × (e.out.items ≡ b.out.items ++ row_text part told)) → e.plan ≡ b.plan →
-    Plays writes b (pooled A p s) e (pooled A p t) × ReadsNext writes (lines_left e) next
-row_played writes A p b e next calls told s t x plays print plan =
-    let y = print x.part x.rest (calls_many writes x.part calls x.written ∙ sym (told_many A (scheme_of p) s t calls told plays)) x.are in (
+    Plays writes b (pooled A p s) e (pooled A p t) × (lines_left e ≡ rest)
+row_played writes A p b e part rest calls told s t are written plays print plan =
+    let y = print part rest (calls_many writes part calls written ∙ sym (told_many A (scheme_of p) s t calls told plays)) are in (
       subst (λ q. Goes writes (state b.plan (pooled A p s)) (lines_left b) b.out.items (state q (pooled A p t)) (lines_left e) e.out.items) (sym plan)
-          (row_goes writes A p b.plan (lines b.left.now) (lines_left e) next calls told s t b.out.items e.out.items x plays y),
-      subst (λ l. ReadsNext writes l next) (sym y.0) x.after,
+          (row_goes writes A p b.plan (lines b.left.now) (lines_left e) part rest calls told s t b.out.items e.out.items are written plays y),
+      y.0,
     )
 
 -- a part that comes after another, by what it gives: what is asked for, and the memory that it leaves

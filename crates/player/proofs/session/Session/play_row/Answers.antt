@@ -4,6 +4,7 @@ use Rattle.pool.specs.Law as law
 use Rattle.pool.specs.Pools.{standing}
 use Rattle.player.specs.Answers.{pooled}
 use Rattle.player.specs.Holding.{within}
+use Rattle.player.specs.Rows.{ReadsNext}
 use Rattle.player.proofs.Parts.{row_played, plays_same, same_pool}
 use Rattle.player.proofs.session.Session.play_row.Goals as goal
 
@@ -19,9 +20,10 @@ returns-clause-played g c =
     let told = c.as_slice-2.result.now in
     let plays : law.Plays A (scheme_of p) s (vec_items row.calls) told e =
     subst (λ cs. law.Plays A (scheme_of p) s cs told e) c.as_slice.ensures.value (subst (λ xs. law.Plays A (scheme_of p) s c.as_slice.result.now xs e) (sym c.as_slice-2.ensures.value) h.3) in
-    let y = row_played W A p c.args.self.now c.print_row.new.self row.next (vec_items row.calls) told s e c.in_ok-calls.ensures.0 plays c.in_ok-print_row.ensures.printed c.print_row.ensures.plan in (
+    let x = c.in_ok-calls.ensures.0 in
+    let y = row_played W A p c.args.self.now c.print_row.new.self x.part x.rest (vec_items row.calls) told s e x.are x.written plays c.in_ok-print_row.ensures.printed c.print_row.ensures.plan in (
       h.0,
-      y.1,
+      subst (λ l. ReadsNext W l row.next) (sym y.1) x.after,
       c.in_ok-calls.ensures.1,
       plays_same W c.args.self.now (within g.F.Field.arithmetic g.R.Rack.valid g.R.Rack.meaning c.args.pool.now) c.print_row.new.self (pooled A p e) (within g.F.Field.arithmetic g.R.Rack.valid g.R.Rack.meaning c.replay.new.pool)
           (sym (same_pool (g.F.Field.arithmetic c.replay.new.pool.field) A c.replay.new.pool.plan p e (ap g.F.Field.arithmetic h.2) h.1)) y.0,
